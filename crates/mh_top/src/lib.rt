@@ -1,0 +1,6 @@
+//! The commands of `myhdl`. Its main promise is the contract of the one public call `run`: what each
+//! status means and when it comes, what every name holds afterwards, and that a converted text means
+//! what its source means.
+#![tactic(auto)]
+
+pub mod vlog;
