@@ -1,3 +1,7 @@
+pub mod Cuts
 pub mod Emission
+pub mod Gate
+pub mod Names
+pub mod Pieces
 pub mod VerilogText
 pub mod VerilogValue

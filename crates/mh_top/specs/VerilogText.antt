@@ -1,8 +1,8 @@
 -- Modules of single-bit wires and continuous assignments, and their text (IEEE 1364-2005, clauses 6.1 and 12.3; the layout is
 -- this project's own).
-use Rattle.std.specs.Prelude.{ℕ, List, [], ◌∷◌, ◌++◌, Bool, true, false, codes, map, slice_get, if◌then◌else◌}
+use Rattle.std.specs.Prelude.{ℕ, List, [], ◌∷◌, ◌++◌, Bool, true, false, codes, map, if◌then◌else◌}
 use Rattle.std.specs.List.{flat_map}
-use Rattle.std.specs.Option.{option_map_or}
+use Rattle.mh_top.specs.Pieces.{joined, line, name_in}
 use Rattle.mh_top.specs.VerilogValue.{Expression, Variable, LogicalNot, BitwiseAnd, BitwiseOr, BitwiseXor}
 
 -- A port of a module: the number of its variable, and its direction.
@@ -22,19 +22,6 @@ pub record Module : Type 0 where
   pub names : List (List ℕ)
   pub ports : List Port
   pub assignments : List Assignment
-
--- The name of a variable; no number past the names is used.
-abbrev pub name_in : List (List ℕ) → ℕ → List ℕ
-name_in names variable = option_map_or (λ name. name) (slice_get names variable) []
-
--- A line with its end.
-abbrev pub line : List ℕ → List ℕ
-line text = text ++ 10 ∷ []
-
--- Pieces with a separator between them.
-abbrev pub joined : List ℕ → List (List ℕ) → List ℕ
-joined separator [] = []
-joined separator (first ∷ rest) = first ++ flat_map (λ piece. separator ++ piece) rest
 
 -- The declaration of a port's direction.
 abbrev pub direction : Bool → List ℕ

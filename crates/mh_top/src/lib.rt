@@ -3,4 +3,8 @@
 //! what its source means.
 #![tactic(auto)]
 
+mod cuts;
+mod gate;
+mod names;
 pub mod vlog;
+mod writing;

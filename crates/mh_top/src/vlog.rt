@@ -5,8 +5,10 @@ ghost use Rattle.std.specs.Prelude.{◌≡◌, ◌++◌, ◌≤◌, codes, drop,
 ghost use Rattle.std.specs.List.{flat_map, list_any};
 ghost use Rattle.mh_design.specs.Design.{assigns, is_driven as is_driven_in, statements};
 ghost use Rattle.mh_top.specs.Emission.{KeepsValues, assignment_of, emitted, module_of, port_of, variable_names};
-ghost use Rattle.mh_top.specs.VerilogText.{assignment_lines, declarations, header, joined, line, name_in, port_line, port_list, section, spelled, text as text_of, wire_line};
+ghost use Rattle.mh_top.specs.Pieces.{joined, line, name_in};
+ghost use Rattle.mh_top.specs.VerilogText.{assignment_lines, declarations, header, port_line, port_list, section, spelled, text as text_of, wire_line};
 
+use crate::writing::write_line;
 use mh_design::{Design, GExpr, GStmt, SignalDecl};
 use mh_text::Memory;
 use std::alloc::Global;
@@ -19,17 +21,6 @@ fn name(signals: &[SignalDecl], variable: u32) -> &[u8]
         Some(signal) => signal.path.bytes(),
         None => b"",
     }
-}
-
-/// Writes a name between a front and an end, as one line.
-fn write_line(out: &mut Vec<u8>, front: &[u8], name: &[u8], end: &[u8]) -> Result<(), Memory>
-    ensures { OnOk result (out.new.items ≡ out.old.items ++ line (front.now ++ name.now ++ end.now)) }
-{
-    out.extend_from_slice(front)?;
-    out.extend_from_slice(name)?;
-    out.extend_from_slice(end)?;
-    out.push(b'\n')?;
-    Ok(())
 }
 
 /// Whether some statement drives a signal.
@@ -104,7 +95,7 @@ fn write_wire(out: &mut Vec<u8>, d: &Design, port: u32) -> Result<(), Memory>
 }
 
 /// Writes the section of the ports' directions.
-#[tactic(auto, using(crate::proofs::Writing::more_written))]
+#[tactic(auto, using(crate::proofs::Written::more_written))]
 fn write_directions(out: &mut Vec<u8>, d: &Design) -> Result<(), Memory>
     ensures { OnOk result (out.new.items ≡ out.old.items ++ flat_map (port_line (variable_names d.now.signals)) (map (port_of d.now) d.now.ports)) }
 {
@@ -115,7 +106,7 @@ fn write_directions(out: &mut Vec<u8>, d: &Design) -> Result<(), Memory>
 }
 
 /// Writes the section of the wires.
-#[tactic(auto, using(crate::proofs::Writing::more_written))]
+#[tactic(auto, using(crate::proofs::Written::more_written))]
 fn write_wires(out: &mut Vec<u8>, d: &Design) -> Result<(), Memory>
     ensures { OnOk result (out.new.items ≡ out.old.items ++ flat_map (wire_line (variable_names d.now.signals)) (map (port_of d.now) d.now.ports)) }
 {
@@ -182,7 +173,7 @@ fn write_assignment(
 }
 
 /// Writes the assignments of a generator.
-#[tactic(auto, using(crate::proofs::Writing::more_written))]
+#[tactic(auto, using(crate::proofs::Written::more_written))]
 fn write_body(out: &mut Vec<u8>, signals: &[SignalDecl], body: &[GStmt]) -> Result<(), Memory>
     ensures { OnOk result (out.new.items ≡ out.old.items ++ flat_map (assignment_lines (variable_names signals.now)) (map assignment_of body.now)) }
 {
@@ -204,7 +195,7 @@ fn write_assignments(out: &mut Vec<u8>, d: &Design) -> Result<(), Memory>
 }
 
 /// Ends a section by a blank line, or leaves it out where nothing was written since `start`.
-#[tactic(auto, using(crate::proofs::Writing::section_ended))]
+#[tactic(auto, using(crate::proofs::Written::section_ended))]
 fn end_section(out: &mut Vec<u8>, start: usize) -> Result<(), Memory>
     requires { start ≤ length out.old.items }
     ensures { OnOk result (out.new.items ≡ take start out.old.items ++ section (drop start out.old.items)) }
