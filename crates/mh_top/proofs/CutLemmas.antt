@@ -1,6 +1,8 @@
 -- Facts on what is cut out of a source.
-use Rattle.std.proofs.Common.{ℕ, zero, suc, List, [], ◌∷◌, ◌++◌, ◌≡◌, ◌+◌, ◌-◌, ◌<◌, ◌≤◌, Bool, true, false, cond, length, refl, sym, ap, ◌∙◌, ltb, append_assoc, append-nil, arith}
+use Rattle.std.proofs.Common.{ℕ, zero, suc, List, [], ◌∷◌, ◌++◌, ◌≡◌, ◌+◌, ◌-◌, ◌<◌, ◌≤◌, Bool, true, false, cond, length, drop, refl, sym, ap, ◌∙◌, ltb, append_assoc, append-nil, arith}
 use Rattle.std.proofs.lemmas.Bool.{cond-true, cond-false, lt-ltb, le-ltb}
+use Rattle.std.proofs.Math.Seq.{drop-cons}
+use Rattle.mh_top.specs.Gate.{numbered}
 use Rattle.mh_top.specs.Cuts.{after, after_lines, before, names_within, unspaced}
 
 -- one line fewer is left
@@ -35,3 +37,12 @@ pub names_over : (turns turn : ℕ) (rest : List ℕ) (names : List (List ℕ)) 
 names_over turns turn rest names over =
     let none : turns - turn ≡ 0 = omega arith in
     sym (ap (λ n. names ++ names_within n rest) none ∙ append-nil names)
+
+-- one number more
+pub number_more : (ports : List (List ℕ)) (at : ℕ) (numbers more : List ℕ) → at < length ports → more ≡ numbers ++ at ∷ [] → more ++ numbered (at + 1) (drop (at + 1) ports) ≡ numbers ++ numbered at (drop at ports)
+number_more ports at numbers more h pushed =
+    let next : at + 1 ≡ suc at = omega arith in
+    ap (λ (ns : List ℕ). ns ++ numbered (at + 1) (drop (at + 1) ports)) pushed
+    ∙ append_assoc numbers (at ∷ []) (numbered (at + 1) (drop (at + 1) ports))
+    ∙ ap (λ k. numbers ++ at ∷ numbered (at + 1) (drop k ports)) next
+    ∙ sym (ap (λ (ps : List (List ℕ)). numbers ++ numbered at ps) (drop-cons ports at [] h))

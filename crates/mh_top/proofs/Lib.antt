@@ -1,2 +1,4 @@
 pub mod Written
 pub mod CutLemmas
+pub mod Lacks
+pub mod GateLaws

@@ -4,6 +4,8 @@ use Rattle.std.specs.Prelude.{ℕ, List, [], ◌∷◌, ◌+◌, ◌++◌, ◌�
 use Rattle.std.specs.List.{flat_map, list_all, list_any}
 use Rattle.std.specs.Str.{bytes_eq}
 use Rattle.mh_design.specs.declared.design.Design.{Design}
+use Rattle.mh_design.specs.declared.design.Generator.{Generator}
+use Rattle.mh_design.specs.declared.design.SignalDecl.{SignalDecl}
 use Rattle.mh_design.specs.declared.design.GStmt.TheVariants.{Assign}
 use Rattle.mh_design.specs.declared.design.GenKind.TheVariants.{Comb}
 use Rattle.mh_design.specs.declared.design.Kind.TheVariants as kind
@@ -116,13 +118,21 @@ abbrev pub numbered : ℕ → List (List ℕ) → List ℕ
 numbered first [] = []
 numbered first (port ∷ ports) = first ∷ numbered (first + 1) ports
 
--- The design of a gate: its ports are its signals, in order, and its one generator has one assignment.
+-- The signal of a port.
+abbrev pub signal_of : List ℕ → SignalDecl
+signal_of port = record { path = port; kind = kind.Bool }
+
+-- One generator with one assignment.
+abbrev pub generators_of : List ℕ → ℕ → GExpr → List Generator
+generators_of function target value = record { path = function; kind = Comb; body = Assign target value ∷ [] } ∷ []
+
+-- The design of a gate: its ports are its signals, in order.
 abbrev pub design_of : Gate → Design
 design_of g = record {
   name = g.block;
   ports = numbered 0 g.ports;
-  signals = map (λ port. record { path = port; kind = kind.Bool }) g.ports;
-  generators = record { path = g.function; kind = Comb; body = Assign g.target g.value ∷ [] } ∷ [];
+  signals = map signal_of g.ports;
+  generators = generators_of g.function g.target g.value;
 }
 
 -- A source spells a design where it is that of a gate with this design.

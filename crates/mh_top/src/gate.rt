@@ -1,11 +1,13 @@
 //! The sources that are converted today. A source's parts are cut out where a source of the form has
 //! them, spelled again, and compared with the source.
 
-ghost use Rattle.std.specs.Prelude.{◌≡◌, ◌++◌, ◌||◌, codes, length, map, IfOk, OnOk};
+ghost use Rattle.std.specs.Prelude.{◌≡◌, ◌++◌, ◌||◌, ◌≤◌, codes, length, map, IfOk, OnOk};
 ghost use Rattle.std.specs.List.{flat_map, list_all};
-ghost use Rattle.mh_top.specs.Gate.{assignment_of, are_distinct as are_distinct_in, call_of, design_of, generator_of, has_free_names, head_of, instance_of, is_among as is_among_in, is_digit as is_digit_byte, is_free as is_free_name, is_gate, is_other as is_other_port, is_lower as is_lower_byte, is_plain_name as is_plain, names_of, operands, request_of, signal_line, source_of, written};
+ghost use Rattle.mh_top.specs.Gate.{assignment_of, are_distinct as are_distinct_in, call_of, design_of, generator_of, generators_of, has_free_names, head_of, instance_of, is_among as is_among_in, is_digit as is_digit_byte, is_free as is_free_name, is_gate, is_other as is_other_port, is_lower as is_lower_byte, is_plain_name as is_plain, names_of, numbered, operands, request_of, signal_line, signal_of, source_of, written};
+ghost use Rattle.mh_top.specs.Reading.{gate_found};
 ghost use Rattle.mh_top.specs.Pieces.{joined, name_in};
 
+use crate::cuts::cut;
 use crate::names::is_taken;
 use crate::writing::{write_line, write_short_line};
 use mh_design::{Design, GExpr, GStmt, GenKind, Generator, Kind, SignalDecl};
@@ -300,5 +302,87 @@ impl Gate {
         write_signals(&mut out, self.ports.as_slice())?;
         self.write_request(&mut out)?;
         Ok(out)
+    }
+}
+
+/// The numbers of the ports.
+fn numbers(alloc: Global, ports: &[Text]) -> Result<Items<u32>, Memory>
+    requires { length ports.now ≤ 64 }
+    ensures { IfOk result (λ numbers. numbers ≡ numbered 0 ports.now) }
+{
+    let mut numbers = Items::new(alloc);
+    for at in 0..ports.len() {
+        numbers.push(at as u32)?;
+    }
+    Ok(numbers)
+}
+
+/// The signals that are the ports.
+fn signals(alloc: Global, ports: &[Text]) -> Result<Items<SignalDecl>, Memory>
+    ensures { IfOk result (λ signals. signals ≡ map signal_of ports.now) }
+{
+    let mut signals = Items::new(alloc);
+    for port in ports {
+        let path = port.copy(alloc)?;
+        signals.push(SignalDecl {
+            path,
+            kind: Kind::Bool,
+        })?;
+    }
+    Ok(signals)
+}
+
+/// The generator of a gate.
+fn generators(
+    alloc: Global,
+    function: Text,
+    target: u32,
+    value: GExpr,
+) -> Result<Items<Generator>, Memory>
+    ensures { IfOk result (λ generators. generators ≡ generators_of function target value) }
+{
+    let mut body = Items::new(alloc);
+    body.push(GStmt::Assign { target, value })?;
+    let mut generators = Items::new(alloc);
+    generators.push(Generator {
+        path: function,
+        kind: GenKind::Comb,
+        body,
+    })?;
+    Ok(generators)
+}
+
+/// The design of a gate.
+fn design(alloc: Global, gate: Gate) -> Result<Design, Memory>
+    requires { length gate.ports ≤ 64 }
+    ensures { IfOk result (λ d. d ≡ design_of gate) }
+{
+    let ports = numbers(alloc, gate.ports.as_slice())?;
+    let signals = signals(alloc, gate.ports.as_slice())?;
+    let generators = generators(alloc, gate.function, gate.target, gate.value)?;
+    Ok(Design {
+        name: gate.block,
+        ports,
+        signals,
+        generators,
+    })
+}
+
+/// The gate that a source spells, if it is of the form.
+#[tactic(auto, unfolding(crate::specs::Reading::gate_found))]
+fn find(alloc: Global, source: &[u8]) -> Result<Option<Gate>, Memory>
+    ensures { IfOk result (λ found. found ≡ gate_found source.now) }
+{
+    let Some(gate) = cut(alloc, source)? else {
+        return Ok(None);
+    };
+    if !gate.is_valid() {
+        return Ok(None);
+    }
+    let spelled = gate.source(alloc)?;
+    if spelled.as_slice() == source {
+        Ok(Some(gate))
+    } else {
+        Ok(None)
     }
 }
