@@ -5,12 +5,13 @@ use Rattle.std.proofs.lemmas.Slice.Eq.{bytes_eq-Decides}
 use Rattle.std.specs.List.{list_all, list_any, flat_map, slice_get}
 use Rattle.std.specs.Option.{option_map_or, option_and_then}
 use Rattle.std.specs.Str.{bytes_eq}
+use Rattle.mh_design.specs.declared.design.Design.{Design}
 use Rattle.mh_design.specs.declared.expression.GExpr.{GExpr}
 use Rattle.mh_design.specs.declared.expression.GExpr.TheVariants.{Signal, Not, And, Or, Xor}
 use Rattle.mh_design.specs.Value.{Reads}
 use Rattle.mh_top.proofs.Lacks.{lacks, lacks-append, before_stop, after_stop, before_none, after_none, name_lacks, after_signals}
 use Rattle.mh_top.specs.Cuts.{after, after_lines, before, binary_of, body_cut, gate_cut, names_between, names_within, place_of, tail_cut, unspaced, value_cut}
-use Rattle.mh_top.specs.Gate.{are_distinct, assignment_of, call_of, generator_of, has_free_names, head_of, is_among, is_digit, is_free, is_gate, is_lower, is_other, is_plain_name, names_of, operands, request_of, signal_line, source_of, written}
+use Rattle.mh_top.specs.Gate.{are_distinct, assignment_of, call_of, design_of, generator_of, has_free_names, head_of, is_among, is_digit, is_free, is_gate, is_lower, is_other, is_plain_name, names_of, operands, request_of, signal_line, source_of, written, Spells}
 use Rattle.mh_top.specs.Names.{is_taken}
 use Rattle.mh_top.specs.Pieces.{joined, line, name_in}
 use Rattle.mh_top.specs.Reading.{gate_found, if_spelled}
@@ -69,8 +70,8 @@ names_again (suc turns) space first [] h begins plain more within =
     let all = before_none 44 list lacking in
     let len = ap length all in
     same_cons (unspaced (before 44 list)) first (cond (ltb (length (before 44 list)) (length list)) (names_within turns (after 44 list)) []) []
-        (ap unspaced all ∙ ap (λ (text : List ℕ). unspaced (space ++ text)) (append-nil first) ∙ begins)
-        (cond-false (ltb (length (before 44 list)) (length list)) (names_within turns (after 44 list)) [] (le-ltb (length (before 44 list)) (length list) (omega (arith, len))))
+    (ap unspaced all ∙ ap (λ (text : List ℕ). unspaced (space ++ text)) (append-nil first) ∙ begins)
+    (cond-false (ltb (length (before 44 list)) (length list)) (names_within turns (after 44 list)) [] (le-ltb (length (before 44 list)) (length list) (omega (arith, len))))
 names_again (suc turns) space first (next ∷ rest) h begins plain more within =
     let tail = 32 ∷ joined (codes ", ") (next ∷ rest) in
     let list = space ++ (first ++ 44 ∷ tail) in
@@ -82,10 +83,10 @@ names_again (suc turns) space first (next ∷ rest) h begins plain more within =
     let front_len : length (before 44 list) ≡ length (space ++ first) = ap length front in
     let parts = and_parts (is_plain_name next) (list_all is_plain_name rest) more in
     same_cons (unspaced (before 44 list)) first (cond (ltb (length (before 44 list)) (length list)) (names_within turns (after 44 list)) []) (next ∷ rest)
-        (ap unspaced front ∙ begins)
-        (cond-true (ltb (length (before 44 list)) (length list)) (names_within turns (after 44 list)) [] (lt-ltb (length (before 44 list)) (length list) (omega arith))
-        ∙ ap (names_within turns) back
-        ∙ names_again turns (32 ∷ []) next rest refl refl parts.0 parts.1 (omega arith))
+    (ap unspaced front ∙ begins)
+    (cond-true (ltb (length (before 44 list)) (length list)) (names_within turns (after 44 list)) [] (lt-ltb (length (before 44 list)) (length list) (omega arith))
+    ∙ ap (names_within turns) back
+    ∙ names_again turns (32 ∷ []) next rest refl refl parts.0 parts.1 (omega arith))
 
 -- a name that may be used isn't `not`
 is_no_not : (name : List ℕ) → is_free name ≡ true → bytes_eq name (codes "not") ≡ false
@@ -195,8 +196,8 @@ source_shape g =
     three (head_of g) (generator_of g) (flat_map signal_line g.ports) (request_of g)
     ∙ ap (λ (text : List ℕ). head_of g ++ text) (body_shape g)
     ∙ ap (λ (text : List ℕ). codes "from myhdl import *\n\n@block\ndef " ++ text)
-        (three (call_of g) (codes ":") (10 ∷ []) (codes "    @always_comb\n    def " ++ (g.function ++ 40 ∷ rest_of g))
-        ∙ four g.block (codes "(") (joined (codes ", ") g.ports) (codes ")") (body_of g))
+    (three (call_of g) (codes ":") (10 ∷ []) (codes "    @always_comb\n    def " ++ (g.function ++ 40 ∷ rest_of g))
+    ∙ four g.block (codes "(") (joined (codes ", ") g.ports) (codes ")") (body_of g))
 
 -- what is_gate says, part by part
 pub record IsValid (g : Gate) : Type 0 where
@@ -373,3 +374,20 @@ found_is source g h = by (gate_cut source) h
     by : (cut : Option Gate) → option_and_then (if_spelled source) cut ≡ Some g → (is_gate g ≡ true) × (source ≡ source_of g)
     by None k = absurd (cc)
     by (Some x) k = checked x (is_gate x && bytes_eq (source_of x) source) refl k
+
+-- what is found spells the design of its gate
+pub found_spells : (source : List ℕ) (g : Gate) (d : Design) → Some g ≡ gate_found source → d ≡ design_of g → Spells source d
+found_spells source g d found is =
+    let facts = found_is source g (sym found) in
+    record { gate = g; valid = facts.0; spelled = facts.1; elaborated = is }
+
+-- where nothing is found, nothing is spelled
+pub none_spelled : (source : List ℕ) (d : Design) → None ≡ gate_found source → Spells source d → ⊥
+none_spelled source d none spells =
+    let again = ap gate_found spells.spelled ∙ found_again spells.gate spells.valid in
+    let clash : None ≡ Some spells.gate = none ∙ again in
+    absurd (cc)
+
+-- a gate that is found has few ports
+pub found_few : (source : List ℕ) (g : Gate) → Some g ≡ gate_found source → length g.ports ≤ 64
+found_few source g found = (valid g (found_is source g (sym found)).0).not_many

@@ -1,10 +1,10 @@
 //! The sources that are converted today. A source's parts are cut out where a source of the form has
 //! them, spelled again, and compared with the source.
 
-ghost use Rattle.std.specs.Prelude.{◌≡◌, ◌++◌, ◌||◌, ◌≤◌, codes, length, map, IfOk, OnOk};
+ghost use Rattle.std.specs.Prelude.{◌≡◌, ◌++◌, ◌||◌, ◌≤◌, codes, length, map, IfErr, IfOk, OnOk};
 ghost use Rattle.std.specs.List.{flat_map, list_all};
-ghost use Rattle.mh_top.specs.Gate.{assignment_of, are_distinct as are_distinct_in, call_of, design_of, generator_of, generators_of, has_free_names, head_of, instance_of, is_among as is_among_in, is_digit as is_digit_byte, is_free as is_free_name, is_gate, is_other as is_other_port, is_lower as is_lower_byte, is_plain_name as is_plain, names_of, numbered, operands, request_of, signal_line, signal_of, source_of, written};
-ghost use Rattle.mh_top.specs.Reading.{gate_found};
+ghost use Rattle.mh_top.specs.Gate.{assignment_of, are_distinct as are_distinct_in, call_of, design_of, generator_of, generators_of, has_free_names, head_of, instance_of, is_among as is_among_in, is_digit as is_digit_byte, is_free as is_free_name, is_gate, is_other as is_other_port, is_lower as is_lower_byte, is_plain_name as is_plain, names_of, numbered, operands, request_of, signal_line, signal_of, Spells, source_of, written};
+ghost use Rattle.mh_top.specs.Reading.{gate_found, not_yet as not_yet_refusal, IsRefusalOf};
 ghost use Rattle.mh_top.specs.Pieces.{joined, name_in};
 
 use crate::cuts::cut;
@@ -384,5 +384,28 @@ fn find(alloc: Global, source: &[u8]) -> Result<Option<Gate>, Memory>
         Ok(Some(gate))
     } else {
         Ok(None)
+    }
+}
+
+/// The design that a source spells. It is refused with `N1 NotYet` at line 0 exactly where it spells
+/// none.
+pub(crate) fn read(alloc: Global, source: &[u8]) -> Result<Design, Refusal>
+    ensures found { IfOk result (Spells source.now) }
+    ensures refused { IfErr result (IsRefusalOf source.now) }
+{
+    match find(alloc, source)? {
+        Some(gate) => Ok(design(alloc, gate)?),
+        None => Err(not_yet(alloc)),
+    }
+}
+
+/// The refusal of a source of no form that is converted.
+fn not_yet(alloc: Global) -> Refusal
+    ensures { result ≡ not_yet_refusal }
+{
+    Refusal::At {
+        code: Code::N1NotYet,
+        line: 0,
+        names: Items::new(alloc),
     }
 }

@@ -3,8 +3,17 @@
 //! what its source means.
 #![tactic(auto)]
 
+mod command;
+mod commands;
+mod complaint;
+mod convert;
 mod cuts;
 mod gate;
+mod lines;
 mod names;
+mod status;
 pub mod vlog;
 mod writing;
+
+pub use commands::run;
+pub use status::Status;

@@ -1,0 +1,78 @@
+-- Four words are those of a command exactly where the test says so.
+use Rattle.std.proofs.Common.{ℕ, List, [], ◌∷◌, ◌≡◌, ◌≢◌, ◌&&◌, Bool, true, false, not, eqb, length, get_or, codes, refl, sym, ap, subst, ◌∙◌, arith}
+use Rattle.std.proofs.lemmas.Bool.{and_parts, not-true, true≢false, false_from_ne_true, eq-eqb, eqb-false, ne_eqb}
+use Rattle.std.proofs.lemmas.Slice.Eq.{bytes_eq-Decides}
+use Rattle.std.specs.List.{slice_get}
+use Rattle.std.specs.Str.{bytes_eq}
+use Rattle.mh_top.specs.CommandOf.{are_convert, is_file_name}
+use Rattle.mh_top.specs.Words.{Command, Convert, Gives, GivesNone, IsConvert, IsFileName}
+
+file_name : (word : List ℕ) → is_file_name word ≡ true → IsFileName word
+file_name [] h = absurd (true≢false (sym h))
+file_name (first ∷ rest) h = λ same. true≢false (sym (eq-eqb first 45 same) ∙ not-true (eqb first 45) h)
+
+file_name_back : (word : List ℕ) → IsFileName word → is_file_name word ≡ true
+file_name_back [] h = absurd h
+file_name_back (first ∷ rest) h = ap not (ne_eqb first 45 h)
+
+-- words that pass the test
+pub convert_given : (words : List (List ℕ)) (verb file option out : List ℕ) → words ≡ verb ∷ file ∷ option ∷ out ∷ [] → are_convert verb file option out ≡ true → IsConvert words file out
+convert_given words verb file option out shape h =
+    let differ = and_parts (bytes_eq verb (codes "convert") && bytes_eq option (codes "--verilog") && is_file_name file && is_file_name out) (not (bytes_eq file out)) h in
+    let text = and_parts (bytes_eq verb (codes "convert") && bytes_eq option (codes "--verilog") && is_file_name file) (is_file_name out) differ.0 in
+    let source = and_parts (bytes_eq verb (codes "convert") && bytes_eq option (codes "--verilog")) (is_file_name file) text.0 in
+    let spelled = and_parts (bytes_eq verb (codes "convert")) (bytes_eq option (codes "--verilog")) source.0 in
+    record {
+      spelled =
+          shape
+          ∙ ap (λ (word : List ℕ). word ∷ file ∷ option ∷ out ∷ []) ((bytes_eq-Decides verb (codes "convert")).0 spelled.0)
+          ∙ ap (λ (word : List ℕ). codes "convert" ∷ file ∷ word ∷ out ∷ []) ((bytes_eq-Decides option (codes "--verilog")).0 spelled.1);
+      source = file_name file source.1;
+      text = file_name out text.1;
+      differ = λ same. true≢false (sym ((bytes_eq-Decides file out).1 same) ∙ not-true (bytes_eq file out) differ.1);
+    }
+
+and_true : (x y : Bool) → x ≡ true → y ≡ true → (x && y) ≡ true
+and_true x y p q = ap (λ b. b && y) p ∙ q
+
+-- the words of the command pass the test
+given_passes : (verb file option out file' out' : List ℕ) → IsConvert (verb ∷ file ∷ option ∷ out ∷ []) file' out' → are_convert verb file option out ≡ true
+given_passes verb file option out file' out' given =
+    let spelled = given.spelled in
+    let first : verb ≡ codes "convert" = cc in
+    let second : file ≡ file' = cc in
+    let third : option ≡ codes "--verilog" = cc in
+    let fourth : out ≡ out' = cc in
+    let verbs = (bytes_eq-Decides verb (codes "convert")).1 first in
+    let options = (bytes_eq-Decides option (codes "--verilog")).1 third in
+    let files = file_name_back file (subst IsFileName (sym second) given.source) in
+    let outs = file_name_back out (subst IsFileName (sym fourth) given.text) in
+    let differ = ap not (false_from_ne_true (bytes_eq file out) (λ same. given.differ (sym second ∙ (bytes_eq-Decides file out).0 same ∙ fourth))) in
+    and_true (bytes_eq verb (codes "convert") && bytes_eq option (codes "--verilog") && is_file_name file && is_file_name out) (not (bytes_eq file out))
+    (and_true (bytes_eq verb (codes "convert") && bytes_eq option (codes "--verilog") && is_file_name file) (is_file_name out)
+    (and_true (bytes_eq verb (codes "convert") && bytes_eq option (codes "--verilog")) (is_file_name file)
+    (and_true (bytes_eq verb (codes "convert")) (bytes_eq option (codes "--verilog")) verbs options) files) outs) differ
+
+-- words that don't pass the test
+pub nothing_given : (words : List (List ℕ)) (verb file option out : List ℕ) → words ≡ verb ∷ file ∷ option ∷ out ∷ [] → are_convert verb file option out ≡ false → GivesNone words
+nothing_given words verb file option out shape h (Convert file' out') given =
+    true≢false (sym (given_passes verb file option out file' out' (subst (λ (ws : List (List ℕ)). IsConvert ws file' out') shape given)) ∙ h)
+
+-- another number of words
+pub other_number : (words : List (List ℕ)) → length words ≢ 4 → GivesNone words
+other_number words h (Convert file out) given = h (ap length given.spelled)
+
+-- four words, by their places
+pub four_words : (words : List (List ℕ)) (a b c d : List ℕ) → length words ≡ 4 → a ≡ get_or words 0 a → b ≡ get_or words 1 b → c ≡ get_or words 2 c → d ≡ get_or words 3 d → words ≡ a ∷ b ∷ c ∷ d ∷ []
+four_words [] a b c d n p q r s = absurd (omega arith)
+four_words (w ∷ []) a b c d n p q r s = absurd (omega arith)
+four_words (w ∷ x ∷ []) a b c d n p q r s = absurd (omega arith)
+four_words (w ∷ x ∷ y ∷ []) a b c d n p q r s = absurd (omega arith)
+four_words (w ∷ x ∷ y ∷ z ∷ []) a b c d n p q r s = cc
+four_words (w ∷ x ∷ y ∷ z ∷ v ∷ vs) a b c d n p q r s = absurd (omega arith)
+
+-- words give one file at most
+pub same_file : (words : List (List ℕ)) (file out file' out' : List ℕ) → IsConvert words file out → IsConvert words file' out' → file ≡ file'
+same_file words file out file' out' one other =
+    let same : codes "convert" ∷ file ∷ codes "--verilog" ∷ out ∷ [] ≡ codes "convert" ∷ file' ∷ codes "--verilog" ∷ out' ∷ [] = sym one.spelled ∙ other.spelled in
+    cc

@@ -1,0 +1,27 @@
+-- The commands of `myhdl`, and the words that give them. These rules are this project's own.
+use Rattle.std.specs.Prelude.{ℕ, List, [], ◌∷◌, ◌≡◌, ◌≢◌, codes}
+
+-- What the program is asked to do.
+pub data Command : Type 0 where
+  -- convert the source that `file` holds, and store its Verilog text under `out`
+  Convert : (file out : List ℕ) → Command
+
+-- The name of a file isn't empty and doesn't begin with a hyphen.
+abbrev pub IsFileName : List ℕ → Type 0
+IsFileName [] = ⊥
+IsFileName (first ∷ rest) = first ≢ 45
+
+-- `convert FILE --verilog OUT`, with two different names.
+pub record IsConvert (words : List (List ℕ)) (file out : List ℕ) : Type 0 where
+  pub spelled : words ≡ codes "convert" ∷ file ∷ codes "--verilog" ∷ out ∷ []
+  pub source : IsFileName file
+  pub text : IsFileName out
+  pub differ : file ≢ out
+
+-- The words (without the program's name) give a command.
+abbrev pub Gives : List (List ℕ) → Command → Type 0
+Gives words (Convert file out) = IsConvert words file out
+
+-- The words give no command.
+abbrev pub GivesNone : List (List ℕ) → Type 0
+GivesNone words = (command : Command) → Gives words command → ⊥
