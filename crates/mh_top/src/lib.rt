@@ -12,6 +12,8 @@ mod gate;
 mod lines;
 mod names;
 mod status;
+#[cfg(test)]
+mod tests;
 pub mod vlog;
 mod writing;
 
