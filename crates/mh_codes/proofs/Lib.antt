@@ -2,6 +2,8 @@ pub mod Division
 pub mod Codes
 pub mod Bitwise
 pub mod Numbers
+pub mod Fitting
+pub mod Intervals
 pub mod Extensions
 pub mod Bits
 pub mod WidthLaws
