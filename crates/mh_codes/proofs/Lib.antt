@@ -7,3 +7,4 @@ pub mod Intervals
 pub mod Extensions
 pub mod Bits
 pub mod WidthLaws
+pub mod Wrapping

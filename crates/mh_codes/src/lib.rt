@@ -8,6 +8,7 @@ ghost use Rattle.std.specs.Prelude.{◌≡◌, ◌≤◌, ◌<◌, ◌≤ℤ◌,
 ghost use Rattle.std.specs.Int.{bit_at};
 ghost use Rattle.mh_codes.specs.Integers.{floor_div, floor_mod, bit_of, integer_and, integer_or, integer_xor};
 ghost use Rattle.mh_codes.specs.Codes.{code, number, Fits, Holds};
+ghost use Rattle.mh_codes.specs.Ranges.{size_of, wrap_of};
 ghost use Rattle.mh_codes.specs.Widths.{width_of, IsWidth};
 
 /// Floor division keeps its law, and nothing else does.
@@ -57,4 +58,15 @@ pub fn arithmetic_laws()
 /// The width of a range is the least that holds both of its ends.
 pub fn width_laws()
     ensures { (lo top : ℤ) → lo ≤ℤ top → IsWidth lo top (width_of lo top) }
+{}
+
+/// Wrapping gives the one integer of the range that differs by a multiple of the range's size.
+pub fn wrapping_laws()
+    ensures inside { (lo top v : ℤ) → lo ≤ℤ top →
+        (lo ≤ℤ wrap_of lo top v) × (wrap_of lo top v ≤ℤ top) }
+    ensures congruent { (lo top v : ℤ) → lo ≤ℤ top →
+        (k : ℤ) × (v ≡ wrap_of lo top v +ℤ (k *ℤ pos (size_of lo top))) }
+    ensures only { (lo top : ℤ) → lo ≤ℤ top →
+        (v x k : ℤ) → lo ≤ℤ x → x ≤ℤ top → v ≡ x +ℤ (k *ℤ pos (size_of lo top)) →
+        x ≡ wrap_of lo top v }
 {}
