@@ -1,9 +1,11 @@
 -- The bits of integers, one by one.
 use Rattle.std.proofs.Common.{ℕ, zero, suc, ℤ, pos, negsuc, ◌+◌, ◌-◌, ◌*◌, ◌/◌, ◌%◌, ◌^◌, ◌<◌, ◌≤◌, ◌≡◌, refl, sym, ap, ◌∙◌, bit_and, bit_or, bit_xor, arith, min, max, true}
 use Rattle.std.proofs.lemmas.Nat.{and_shr, or_shr, xor_shr, shr_split, pow-add}
-use Rattle.mh_codes.specs.Integers.{floor_div, bit_of, integer_and, integer_or, integer_xor}
+use Rattle.std.proofs.lemmas.Int.{ints}
+use Rattle.std.proofs.lemmas.Nat.{pow_pos}
+use Rattle.mh_codes.specs.Integers.{floor_mod, floor_div, bit_of, integer_and, integer_or, integer_xor, inverse_of}
 use Rattle.mh_codes.specs.Codes.{code, Fits, number}
-use Rattle.mh_codes.proofs.Codes.{code_shr, code_cut, code_part, code_below}
+use Rattle.mh_codes.proofs.Codes.{code_shr, code_cut, code_part, code_below, code_same}
 use Rattle.mh_codes.proofs.Bitwise.{code-and, code-or, code-xor}
 use Rattle.mh_codes.proofs.Numbers.{number-code}
 
@@ -102,3 +104,28 @@ pub same_from_bits : (a b : ℤ) → ((k : ℕ) → bit_of k a ≡ bit_of k b) �
 same_from_bits a b h =
     let w = ample_width a + ample_width b in
     sym (number-code true w a (fits_ample a w (omega arith))) ∙ ap (number true w) (code_from_bits w a b (λ k l. h k)) ∙ number-code true w b (fits_ample b w (omega arith))
+
+-- -1 - z, each of whose bits is that of z inverted
+abbrev pub complement_of : ℤ → ℤ
+complement_of (pos n) = negsuc n
+complement_of (negsuc n) = pos n
+
+floor_mod-complement_of : (z : ℤ) → floor_mod (complement_of z) 2 ≡ 1 - floor_mod z 2
+floor_mod-complement_of (pos n) = refl
+floor_mod-complement_of (negsuc n) = omega arith
+
+floor_div-complement_of : (z : ℤ) (d : ℕ) → floor_div (complement_of z) d ≡ complement_of (floor_div z d)
+floor_div-complement_of (pos n) d = refl
+floor_div-complement_of (negsuc n) d = refl
+
+pub bit_of-complement_of : (k : ℕ) (z : ℤ) → bit_of k (complement_of z) ≡ 1 - bit_of k z
+bit_of-complement_of k z = ap (λ q. floor_mod q 2) (floor_div-complement_of z (2 ^ k)) ∙ floor_mod-complement_of (floor_div z (2 ^ k))
+
+code-inverse_of : (w : ℕ) (z : ℤ) → code w (inverse_of w z) ≡ code w (complement_of z)
+code-inverse_of w (pos n) = let p = pow_pos w in code_same w (inverse_of w (pos n)) (negsuc n) 0 1 (omega (arith, ints))
+code-inverse_of w (negsuc n) = let p = pow_pos w in code_same w (inverse_of w (negsuc n)) (pos n) 0 1 (omega (arith, ints))
+
+-- inverting w bits inverts each of them
+pub bit_of-inverse : (w k : ℕ) (z : ℤ) → k < w → bit_of k (inverse_of w z) ≡ 1 - bit_of k z
+bit_of-inverse w k z l =
+    sym (bit_of-code w k (inverse_of w z) l) ∙ ap (λ n. n / 2 ^ k % 2) (code-inverse_of w z) ∙ bit_of-code w k (complement_of z) l ∙ bit_of-complement_of k z

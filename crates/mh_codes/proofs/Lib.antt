@@ -8,3 +8,4 @@ pub mod Extensions
 pub mod Bits
 pub mod WidthLaws
 pub mod Wrapping
+pub mod Slices

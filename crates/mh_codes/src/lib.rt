@@ -6,7 +6,7 @@
 
 ghost use Rattle.std.specs.Prelude.{◌≡◌, ◌≤◌, ◌<◌, ◌≤ℤ◌, ◌↔◌, ℕ, ℤ, pos, negsuc, true, false, ◌+◌, ◌-◌, ◌*◌, ◌/◌, ◌%◌, ◌^◌, ◌+ℤ◌, ◌-ℤ◌, ◌*ℤ◌, Bool, min, max, bit_and, bit_or, bit_xor};
 ghost use Rattle.std.specs.Int.{bit_at};
-ghost use Rattle.mh_codes.specs.Integers.{floor_div, floor_mod, bit_of, integer_and, integer_or, integer_xor};
+ghost use Rattle.mh_codes.specs.Integers.{floor_div, floor_mod, bit_of, integer_and, integer_or, integer_xor, inverse_of, slice_of};
 ghost use Rattle.mh_codes.specs.Codes.{code, number, Fits, Holds};
 ghost use Rattle.mh_codes.specs.Ranges.{size_of, wrap_of};
 ghost use Rattle.mh_codes.specs.Widths.{width_of, IsWidth};
@@ -24,8 +24,17 @@ pub fn bitwise_laws()
     ensures and { (k : ℕ) (a b : ℤ) → bit_of k (integer_and a b) ≡ min (bit_of k a) (bit_of k b) }
     ensures or { (k : ℕ) (a b : ℤ) → bit_of k (integer_or a b) ≡ max (bit_of k a) (bit_of k b) }
     ensures xor { (k : ℕ) (a b : ℤ) → bit_of k (integer_xor a b) ≡ (bit_of k a + bit_of k b) % 2 }
+    ensures inverse { (w k : ℕ) (z : ℤ) → k < w → bit_of k (inverse_of w z) ≡ 1 - bit_of k z }
     ensures bit { (k : ℕ) (z : ℤ) → bit_of k z < 2 }
     ensures determined { (a b : ℤ) → ((k : ℕ) → bit_of k a ≡ bit_of k b) → a ≡ b }
+{}
+
+/// A slice holds the bits that its places name, and adjacent slices join.
+pub fn slice_laws()
+    ensures below { (i j : ℕ) (z : ℤ) → slice_of i j z < 2 ^ (i - j) }
+    ensures bits { (i j k : ℕ) (z : ℤ) → j + k < i → bit_of k (pos (slice_of i j z)) ≡ bit_of (j + k) z }
+    ensures joined { (i j k : ℕ) (z : ℤ) → k ≤ j → j ≤ i →
+        slice_of i k z ≡ slice_of i j z * 2 ^ (j - k) + slice_of j k z }
 {}
 
 /// Codes and numbers are each other's inverse, and `Fits` is the interval that its name says.
