@@ -3,7 +3,8 @@ use Rattle.std.proofs.Common.{ℕ, zero, suc, ℤ, pos, negsuc, ◌+◌, ◌/◌
 use Rattle.std.proofs.lemmas.Int.{ints}
 use Rattle.std.proofs.lemmas.Nat.{pow-add}
 use Rattle.std.proofs.Math.Nat.{pow-le-pow_right}
-use Rattle.mh_codes.specs.Widths.{bits_within, bit_length, width_of, IsWidth}
+use Rattle.mh_codes.specs.Codes.{Fits}
+use Rattle.mh_codes.specs.Widths.{bits_within, bit_length, is_signed, width_of, IsWidth}
 
 two : 0 < 2
 two = omega arith
@@ -67,3 +68,7 @@ width_of_is (negsuc n) (negsuc m) l =
 -- no range has two widths
 pub same_width : (lo top : ℤ) (w v : ℕ) → IsWidth lo top w → IsWidth lo top v → w ≡ v
 same_width lo top w v a b = let p = a.least v b.some b.low_fits b.top_fits in let q = b.least w a.some a.low_fits a.top_fits in omega arith
+
+-- a range whose ends fit a width is that wide at most
+pub width_at_most : (lo top : ℤ) (v : ℕ) → lo ≤ℤ top → 1 ≤ v → Fits (is_signed lo) v lo → Fits (is_signed lo) v top → width_of lo top ≤ v
+width_at_most lo top v l o p q = (width_of_is lo top l).least v o p q
