@@ -19,7 +19,6 @@ bits_within_hold (suc f) (suc n) h =
     omega arith
 
 pub bit_length_holds : (n : ℕ) → n < 2 ^ bit_length n
-unfolding bit_length
 bit_length_holds n = bits_within_hold n n (omega arith)
 
 twice : (v : ℕ) → 2 ^ suc v ≡ 2 ^ v + 2 ^ v
@@ -33,7 +32,6 @@ bits_within_least (suc f) (suc n) zero h = absurd (omega arith)
 bits_within_least (suc f) (suc n) (suc v) h = let t = twice v in let i = bits_within_least f (suc n / 2) v (omega arith) in omega arith
 
 pub bit_length_least : (n v : ℕ) → n < 2 ^ v → bit_length n ≤ v
-unfolding bit_length
 bit_length_least n v h = bits_within_least n n v h
 
 -- from its length on each width holds a number

@@ -9,7 +9,7 @@ bits_within (suc fuel) zero = zero
 bits_within (suc fuel) (suc n) = suc (bits_within fuel (suc n / 2))
 
 -- The number of bits of n without leading zeros, 0 for 0.
-unfoldable pub bit_length : ℕ → ℕ
+abbrev pub bit_length : ℕ → ℕ
 bit_length n = bits_within n n
 
 -- A range is read as signed where its least number is negative.

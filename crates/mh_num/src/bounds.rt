@@ -1,5 +1,5 @@
 // Ranges of numbers, their width, and what becomes of a number that is put into one.
-ghost use Rattle.std.specs.Prelude.{◌≡◌, ◌<◌, ◌≤◌, ◌≤ℤ◌, ◌-ℤ◌, ◌↔◌, IsTrue, IsSome, IfSome, ◌^◌};
+ghost use Rattle.std.specs.Prelude.{◌≡◌, ◌<◌, ◌≤◌, ◌≤ℤ◌, ◌-ℤ◌, ◌↔◌, IsTrue, IsSome, IfSome, IfOk, ◌^◌};
 ghost use Rattle.mh_codes.specs.Ranges.{size_of, wrap_of};
 ghost use Rattle.mh_codes.specs.Integers.{floor_mod};
 ghost use Rattle.mh_codes.specs.Widths.{bit_length, magnitude_of, width_of, IsWidth};
@@ -108,7 +108,8 @@ fn offset(v: i128, lo: i128, size: u128) -> u128
 /// `v` where it is in the range; outside, the number of the range that differs from `v` by a
 /// multiple of the range's size where the bounds wrap, and else `OutOfBounds`.
 pub fn fit(v: i128, b: &Bounds) -> Result<i128, OutOfBounds>
-    ensures { result ≡ fit_of b.now.lo b.now.top b.now.wraps v }
+    ensures exact { result ≡ fit_of b.now.lo b.now.top b.now.wraps v }
+    ensures inside { IfOk result (λ z. (b.now.lo ≤ℤ z) × (z ≤ℤ b.now.top)) }
 {
     if b.lo <= v && v <= b.top {
         Ok(v)

@@ -10,3 +10,6 @@ mod bounds;
 pub use arithmetic::{add, mul, quot, rem, shl, shr, sub};
 pub use bits::{and, bit, not, or, signed_of, slice, xor};
 pub use bounds::{Bounds, OutOfBounds, fit, width};
+
+#[cfg(test)]
+mod tests;
