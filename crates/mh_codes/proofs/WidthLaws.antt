@@ -70,3 +70,15 @@ same_width lo top w v a b = let p = a.least v b.some b.low_fits b.top_fits in le
 -- a range whose ends fit a width is that wide at most
 pub width_at_most : (lo top : ℤ) (v : ℕ) → lo ≤ℤ top → 1 ≤ v → Fits (is_signed lo) v lo → Fits (is_signed lo) v top → width_of lo top ≤ v
 width_at_most lo top v l o p q = (width_of_is lo top l).least v o p q
+
+-- each integer of a range fits the width of the range
+pub fits-width_of : (lo top z : ℤ) → lo ≤ℤ z → z ≤ℤ top → Fits (is_signed lo) (width_of lo top) z
+fits-width_of lo top z a b = let w = width_of_is lo top (omega (arith, ints)) in between lo top z (width_of lo top) a b w.low_fits w.top_fits
+  where
+    between : (lo top z : ℤ) (w : ℕ) → lo ≤ℤ z → z ≤ℤ top → Fits (is_signed lo) w lo → Fits (is_signed lo) w top → Fits (is_signed lo) w z
+    between (pos n) (pos m) (pos k) w a b f g = omega (arith, ints)
+    between (pos n) (negsuc m) (pos k) w a b f g = absurd g
+    between (pos n) top (negsuc k) w a b f g = absurd (omega (arith, ints))
+    between (negsuc n) (pos m) (pos k) w a b f g = omega (arith, ints)
+    between (negsuc n) (negsuc m) (pos k) w a b f g = absurd (omega (arith, ints))
+    between (negsuc n) top (negsuc k) w a b f g = omega (arith, ints)

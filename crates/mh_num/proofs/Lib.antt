@@ -1,3 +1,5 @@
 pub mod Words
+pub mod ResultLaws
 pub mod Shifts
 pub mod Ends
+pub mod FitLaws

@@ -1,7 +1,7 @@
--- What leaves i128, and shifts to the left in two steps.
+-- Shifts to the left in two steps.
 use Rattle.std.proofs.Common.{ℕ, suc, ℤ, pos, negsuc, ◌+◌, ◌-◌, ◌*◌, ◌/◌, ◌^◌, ◌<◌, ◌≤◌, ◌*ℤ◌, ◌≡◌, sym, ap, ◌∙◌, ltb, Some, None, arith}
 use Rattle.std.proofs.lemmas.Int.{ints, to_z-of_z}
-use Rattle.std.proofs.lemmas.Bool.{cond_both, cond-true, cond-false}
+use Rattle.std.proofs.lemmas.Bool.{cond_both}
 use Rattle.std.proofs.lemmas.Bool.Decides.{nat_tests}
 use Rattle.std.proofs.lemmas.Nat.{pow_pos, pow-add}
 use Rattle.std.proofs.Math.Nat.{mul-le-mul_left, mul_assoc}
@@ -11,25 +11,7 @@ use Rattle.std.specs.Int.{w128, cast_unsigned, cast_signed}
 use Rattle.std.specs.Int.RustNames.{FitsSigned}
 use Rattle.std.specs.Option.{option_and_then}
 use Rattle.mh_num.specs.Results.{in_i128, amount_of, left_shift_of}
-
--- an answer is the integer itself
-pub in_i128-some : (z r : ℤ) → Some r ≡ in_i128 z → r ≡ z
-in_i128-some (pos n) r = cond_both (ltb n (2 ^ 127)) (Some (pos n)) None (λ o. Some r ≡ o → r ≡ pos n) (λ _ e. cc) (λ _ e. absurd cc)
-in_i128-some (negsuc n) r = cond_both (ltb n (2 ^ 127)) (Some (negsuc n)) None (λ o. Some r ≡ o → r ≡ negsuc n) (λ _ e. cc) (λ _ e. absurd cc)
-
--- an integer of i128 is answered
-pub in_i128-fits : (z : ℤ) → FitsSigned w128 z → in_i128 z ≡ Some z
-in_i128-fits (pos n) f = let h = f.sfits in cond-true (ltb n (2 ^ 127)) (Some (pos n)) None (grind (arith, nat_tests))
-in_i128-fits (negsuc n) f = let h = f.sfits in cond-true (ltb n (2 ^ 127)) (Some (negsuc n)) None (grind (arith, nat_tests))
-
--- and no other is
-pub in_i128-none : (z : ℤ) → 2 ^ 127 ≤ magnitude_of z → in_i128 z ≡ None
-in_i128-none (pos n) h = cond-false (ltb n (2 ^ 127)) (Some (pos n)) None (grind (arith, nat_tests))
-in_i128-none (negsuc n) h = cond-false (ltb n (2 ^ 127)) (Some (negsuc n)) None (grind (arith, nat_tests))
-
-outside : (z : ℤ) → None ≡ in_i128 z → 2 ^ 127 ≤ magnitude_of z
-outside (pos n) = cond_both (ltb n (2 ^ 127)) (Some (pos n)) None (λ o. None ≡ o → 2 ^ 127 ≤ n) (λ _ e. absurd cc) (λ t _. grind (arith, nat_tests))
-outside (negsuc n) = cond_both (ltb n (2 ^ 127)) (Some (negsuc n)) None (λ o. None ≡ o → 2 ^ 127 ≤ n) (λ _ e. absurd cc) (λ t _. grind (arith, nat_tests))
+use Rattle.mh_num.proofs.ResultLaws.{in_i128-some, in_i128-none, in_i128-outside}
 
 -- a product of a negative integer
 negative : (n m : ℕ) → 0 < m → negsuc n *ℤ pos m ≡ negsuc (suc n * m - 1)
@@ -81,7 +63,7 @@ module _ (a b p : ℤ) (k : ℕ) (f : FitsSigned w128 a) (g : FitsSigned w128 p)
   -- the first step leaves i128: so does the whole
   pub left_shift-none : None ≡ in_i128 (cast_signed w128 (cast_unsigned w128 a) *ℤ cast_signed w128 (cast_unsigned w128 p)) → None ≡ left_shift_of a b
   left_shift-none n =
-      let o = outside (a *ℤ pos (2 ^ (k / 2))) (n ∙ ap in_i128 first) in
+      let o = in_i128-outside (a *ℤ pos (2 ^ (k / 2))) (n ∙ ap in_i128 first) in
       sym (shifted ∙ in_i128-none ((a *ℤ pos (2 ^ (k / 2))) *ℤ pos (2 ^ (k - k / 2))) (times_outside (a *ℤ pos (2 ^ (k / 2))) (2 ^ (k - k / 2)) (pow_pos (k - k / 2)) o))
 
   -- and else the second step gives it
