@@ -1,3 +1,4 @@
+pub mod Powers
 pub mod Division
 pub mod Codes
 pub mod Bitwise

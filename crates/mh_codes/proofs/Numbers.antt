@@ -6,6 +6,7 @@ use Rattle.std.proofs.lemmas.Bool.{cond_both}
 use Rattle.std.proofs.lemmas.Nat.{pow_pos, pow-add, shr_le}
 use Rattle.std.proofs.Math.Nat.{mod-eq_of_lt, pow-le-pow_right}
 use Rattle.mh_codes.specs.Integers.{floor_div}
+use Rattle.mh_codes.proofs.Powers.{two}
 use Rattle.mh_codes.specs.Codes.{code, number, Fits, Holds}
 
 -- a code is a remainder, and remainders below 2 ^ w stay
@@ -39,15 +40,13 @@ code-number true w n h = by (ltb (n + n) (2 ^ w))
     by true = mod-eq_of_lt h
     by false = let e : (2 ^ w - 1 - n) % 2 ^ w ≡ 2 ^ w - 1 - n = mod-eq_of_lt (omega arith) in omega arith
 
+-- the code 0 is the number 0
 pub number-zero : (s : Bool) (w : ℕ) → number s w 0 ≡ pos 0
 number-zero false w = refl
 number-zero true w = yes (ltb (0 + 0) (2 ^ w)) (let p = pow_pos w in grind (arith, nat_tests))
   where
     yes : (t : Bool) → t ≡ true → cond t (pos 0) (negsuc (2 ^ w - 1 - 0)) ≡ pos 0
     yes t e = ap (λ t. cond t (pos 0) (negsuc (2 ^ w - 1 - 0))) e
-
-two : 0 < 2
-two = omega arith
 
 -- a wider kind of the same sign holds the same numbers, and a signed one with a bit more too
 pub fits_wider : (s : Bool) (w v : ℕ) (z : ℤ) → w ≤ v → Fits s w z → Fits s v z
@@ -56,6 +55,7 @@ fits_wider false w v (negsuc n) l h = h
 fits_wider true w v (pos n) l h = let p = pow-le-pow_right two l in omega arith
 fits_wider true w v (negsuc n) l h = let p = pow-le-pow_right two l in omega arith
 
+-- an unsigned number fits a signed width with one bit more
 pub fits_signed : (w v : ℕ) (z : ℤ) → w < v → Fits false w z → Fits true v z
 fits_signed w v (pos n) l h = let l2 : w + 1 ≤ v = omega arith in let p = pow-le-pow_right two l2 in let q = pow-add 2 w 1 in omega arith
 fits_signed w v (negsuc n) l h = absurd h
@@ -70,6 +70,7 @@ pub fits_unsigned_from : (w : ℕ) (z : ℤ) → pos 0 ≤ℤ z → z ≤ℤ pos
 fits_unsigned_from w (pos n) a b = let p = pow_pos w in omega (arith, ints)
 fits_unsigned_from w (negsuc n) a b = absurd (omega (arith, ints))
 
+-- and those ends hold of what fits
 pub fits_unsigned_low : (w : ℕ) (z : ℤ) → Fits false w z → pos 0 ≤ℤ z
 fits_unsigned_low w (pos n) f = omega (arith, ints)
 fits_unsigned_low w (negsuc n) f = absurd f
@@ -78,21 +79,24 @@ pub fits_unsigned_high : (w : ℕ) (z : ℤ) → Fits false w z → z ≤ℤ pos
 fits_unsigned_high w (pos n) f = omega (arith, ints)
 fits_unsigned_high w (negsuc n) f = absurd f
 
-twice : (v : ℕ) → 2 ^ (v + 1) ≡ 2 ^ v + 2 ^ v
-twice v = let p = pow-add 2 v 1 in omega arith
+doubled : (v : ℕ) → 2 ^ (v + 1) ≡ 2 ^ v + 2 ^ v
+doubled v = let p = pow-add 2 v 1 in omega arith
 
+-- the same for signed widths
 pub fits_signed_from : (w : ℕ) (z : ℤ) → negsuc (2 ^ w - 1) ≤ℤ z → z ≤ℤ pos (2 ^ w - 1) → Fits true (w + 1) z
-fits_signed_from w (pos n) a b = let p = pow_pos w in let t = twice w in omega (arith, ints)
-fits_signed_from w (negsuc n) a b = let p = pow_pos w in let t = twice w in omega (arith, ints)
+fits_signed_from w (pos n) a b = let p = pow_pos w in let t = doubled w in omega (arith, ints)
+fits_signed_from w (negsuc n) a b = let p = pow_pos w in let t = doubled w in omega (arith, ints)
 
+-- and those ends hold of what fits
 pub fits_signed_low : (w : ℕ) (z : ℤ) → Fits true (w + 1) z → negsuc (2 ^ w - 1) ≤ℤ z
 fits_signed_low w (pos n) f = omega (arith, ints)
-fits_signed_low w (negsuc n) f = let t = twice w in omega (arith, ints)
+fits_signed_low w (negsuc n) f = let t = doubled w in omega (arith, ints)
 
 pub fits_signed_high : (w : ℕ) (z : ℤ) → Fits true (w + 1) z → z ≤ℤ pos (2 ^ w - 1)
-fits_signed_high w (pos n) f = let t = twice w in omega (arith, ints)
+fits_signed_high w (pos n) f = let t = doubled w in omega (arith, ints)
 fits_signed_high w (negsuc n) f = omega (arith, ints)
 
+-- a signed number fits
 number_fits : (w n : ℕ) → n < 2 ^ w → Fits true w (number true w n)
 number_fits w n h = cond_both (ltb (n + n) (2 ^ w)) (pos n) (negsuc (2 ^ w - 1 - n)) (Fits true w) (λ e. grind (arith, nat_tests)) (λ e. grind (arith, nat_tests))
 

@@ -11,9 +11,11 @@ pub floor_div-floor_div : (z : ℤ) (j k : ℕ) → floor_div (floor_div z (2 ^ 
 floor_div-floor_div (pos n) j k = ap pos (shr-shr n j k)
 floor_div-floor_div (negsuc n) j k = ap negsuc (shr-shr n j k)
 
+-- a slice has as many bits as places
 pub slice_below : (i j : ℕ) (z : ℤ) → slice_of i j z < 2 ^ (i - j)
 slice_below i j z = code_below (i - j) (floor_div z (2 ^ j))
 
+-- and its bits are those of the number
 pub bit_of-slice : (i j k : ℕ) (z : ℤ) → j + k < i → bit_of k (pos (slice_of i j z)) ≡ bit_of (j + k) z
 bit_of-slice i j k z l = bit_of-code (i - j) k (floor_div z (2 ^ j)) (omega arith) ∙ ap (λ q. floor_mod q 2) (floor_div-floor_div z j k)
 

@@ -3,12 +3,11 @@ use Rattle.std.proofs.Common.{ℕ, zero, suc, ℤ, pos, negsuc, ◌+◌, ◌/◌
 use Rattle.std.proofs.lemmas.Int.{ints}
 use Rattle.std.proofs.lemmas.Nat.{pow-add}
 use Rattle.std.proofs.Math.Nat.{pow-le-pow_right}
+use Rattle.mh_codes.proofs.Powers.{two, twice}
 use Rattle.mh_codes.specs.Codes.{Fits}
 use Rattle.mh_codes.specs.Widths.{bits_within, bit_length, is_signed, width_of, IsWidth}
 
-two : 0 < 2
-two = omega arith
-
+-- a number is below the power of its length
 bits_within_hold : (f n : ℕ) → n ≤ f → n < 2 ^ bits_within f n
 bits_within_hold zero n h = omega arith
 bits_within_hold (suc f) zero h = omega arith
@@ -18,11 +17,9 @@ bits_within_hold (suc f) (suc n) h =
     let e : 2 ^ suc (bits_within f (suc n / 2)) ≡ 2 ^ (bits_within f (suc n / 2) + 1) = ap (λ x. 2 ^ x) (omega arith) in
     omega arith
 
+-- the same without a bound
 pub bit_length_holds : (n : ℕ) → n < 2 ^ bit_length n
 bit_length_holds n = bits_within_hold n n (omega arith)
-
-twice : (v : ℕ) → 2 ^ suc v ≡ 2 ^ v + 2 ^ v
-twice v = let p = pow-add 2 v 1 in let e : 2 ^ suc v ≡ 2 ^ (v + 1) = ap (λ x. 2 ^ x) (omega arith) in omega arith
 
 -- what a width holds needs no more bits
 bits_within_least : (f n v : ℕ) → n < 2 ^ v → bits_within f n ≤ v
@@ -31,6 +28,7 @@ bits_within_least (suc f) zero v h = omega arith
 bits_within_least (suc f) (suc n) zero h = absurd (omega arith)
 bits_within_least (suc f) (suc n) (suc v) h = let t = twice v in let i = bits_within_least f (suc n / 2) v (omega arith) in omega arith
 
+-- the same without a bound
 pub bit_length_least : (n v : ℕ) → n < 2 ^ v → bit_length n ≤ v
 bit_length_least n v h = bits_within_least n n v h
 
@@ -53,6 +51,7 @@ module _ (n m : ℕ) where
   doubles zero o p q = absurd (omega arith)
   doubles (suc v) o p q = let t = twice v in let a = bit_length_least n v (omega arith) in let b = bit_length_least m v (omega arith) in omega arith
 
+-- the width of a range is the least
 pub width_of_is : (lo top : ℤ) → lo ≤ℤ top → IsWidth lo top (width_of lo top)
 width_of_is (pos n) (pos m) l = positive n m (omega (arith, ints))
 width_of_is (pos n) (negsuc m) l = absurd (omega (arith, ints))

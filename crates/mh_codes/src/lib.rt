@@ -32,7 +32,8 @@ pub fn bitwise_laws()
 /// A slice holds the bits that its places name, and adjacent slices join.
 pub fn slice_laws()
     ensures below { (i j : ℕ) (z : ℤ) → slice_of i j z < 2 ^ (i - j) }
-    ensures bits { (i j k : ℕ) (z : ℤ) → j + k < i → bit_of k (pos (slice_of i j z)) ≡ bit_of (j + k) z }
+    ensures bits { (i j k : ℕ) (z : ℤ) → j + k < i →
+        bit_of k (pos (slice_of i j z)) ≡ bit_of (j + k) z }
     ensures joined { (i j k : ℕ) (z : ℤ) → k ≤ j → j ≤ i →
         slice_of i k z ≡ slice_of i j z * 2 ^ (j - k) + slice_of j k z }
 {}
@@ -55,7 +56,8 @@ pub fn code_laws()
 /// The operators on integers, seen through codes.
 pub fn arithmetic_laws()
     ensures sum { (w : ℕ) (a b : ℤ) → code w (a +ℤ b) ≡ (code w a + code w b) % 2 ^ w }
-    ensures difference { (w : ℕ) (a b : ℤ) → code w (a -ℤ b) ≡ (code w a + (2 ^ w - code w b)) % 2 ^ w }
+    ensures difference { (w : ℕ) (a b : ℤ) →
+        code w (a -ℤ b) ≡ (code w a + (2 ^ w - code w b)) % 2 ^ w }
     ensures product { (w : ℕ) (a b : ℤ) → code w (a *ℤ b) ≡ (code w a * code w b) % 2 ^ w }
     ensures and { (w : ℕ) (a b : ℤ) → code w (integer_and a b) ≡ bit_and (code w a) (code w b) }
     ensures or { (w : ℕ) (a b : ℤ) → code w (integer_or a b) ≡ bit_or (code w a) (code w b) }
