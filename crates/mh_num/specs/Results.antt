@@ -1,12 +1,12 @@
 -- What the calls on numbers answer: the integer, or nothing.
-use Rattle.std.specs.Prelude.{ℕ, zero, suc, ℤ, pos, negsuc, ◌*ℤ◌, ◌^◌, if◌then◌else◌, nat_lt, Some, None, Option}
+use Rattle.std.specs.Prelude.{ℕ, zero, suc, ℤ, pos, negsuc, ◌*ℤ◌, ◌^◌, ◌-◌, if◌then◌else◌, nat_lt, Some, None, Option}
 use Rattle.std.specs.Option.{option_map, option_and_then}
+use Rattle.mh_codes.specs.Ranges.{is_inside}
 use Rattle.mh_codes.specs.Integers.{floor_div, floor_mod}
 
 -- z, where it is one of the integers -2 ^ 127 .. 2 ^ 127 - 1 of the type i128.
 abbrev pub in_i128 : ℤ → Option ℤ
-in_i128 (pos n) = if nat_lt n (2 ^ 127) then Some (pos n) else None
-in_i128 (negsuc n) = if nat_lt n (2 ^ 127) then Some (negsuc n) else None
+in_i128 z = if is_inside (negsuc (2 ^ 127 - 1)) (pos (2 ^ 127 - 1)) z then Some z else None
 
 -- b as the amount of a shift, 0 .. 127 (the project's own rule).
 abbrev pub amount_of : ℤ → Option ℕ
