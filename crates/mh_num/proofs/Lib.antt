@@ -3,3 +3,4 @@ pub mod ResultLaws
 pub mod Shifts
 pub mod Ends
 pub mod FitLaws
+pub mod BoundsLaws
