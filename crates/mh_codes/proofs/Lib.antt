@@ -1,0 +1,12 @@
+pub mod Powers
+pub mod Division
+pub mod Codes
+pub mod Bitwise
+pub mod Numbers
+pub mod Fitting
+pub mod Intervals
+pub mod Extensions
+pub mod Bits
+pub mod WidthLaws
+pub mod Wrapping
+pub mod Slices

@@ -1,0 +1,4 @@
+pub mod Integers
+pub mod Codes
+pub mod Widths
+pub mod Ranges
