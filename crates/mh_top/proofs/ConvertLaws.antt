@@ -1,9 +1,8 @@
 -- The ends of a conversion's steps make the ends of the command.
-use Rattle.std.proofs.Common.{ℕ, List, [], ◌∷◌, ◌++◌, ◌≡◌, ◌≢◌, ◌⊎◌, ◌+◌, ◌^◌, ◌<◌, ◌≤◌, Bool, true, false, eqb, length, Option, Some, None, IfSome, Result, Ok, Err, IfOk, MatchResult, inl, inr, append-nil, length-append, refl, sym, ap, subst, ◌∙◌, arith}
+use Rattle.std.proofs.Common.{ℕ, List, [], ◌++◌, ◌≡◌, ◌+◌, ◌^◌, ◌<◌, ◌≤◌, true, false, eqb, length, Option, Some, None, IfSome, Result, Ok, Err, IfOk, MatchResult, inl, inr, append-nil, length-append, refl, sym, ap, subst, ◌∙◌, arith}
 use Rattle.std.proofs.lemmas.Bool.{eqb-false}
 use Rattle.std.specs.declared.alloc.Global.{Global}
 use Rattle.std.specs.declared.vec.Vec.{Vec}
-use Rattle.mh_design.specs.declared.design.Design.{Design}
 use Rattle.mh_host.specs.Shelf.{Counted, Counts, Finds, HeldAfter, IsFront, IsPortion, Rose, Seen, Stores, Told}
 use Rattle.mh_host.specs.declared.shelf.Fetched.TheVariants.{Whole, TooLong}
 use Rattle.mh_text.specs.declared.memory.Memory.{Memory}
@@ -12,9 +11,8 @@ use Rattle.mh_top.proofs.WordLaws.{same_file}
 use Rattle.mh_top.specs.Commands.{Completes, Ends}
 use Rattle.mh_top.specs.Convert.{ConvertEnds, done, refused, unfetched, unstored, no_memory, too_long, ConvertCompletes, HasConverted, HasFoundTooLong, HasRefused, HasStoredInPart, StatusFits}
 use Rattle.mh_top.specs.Emission.{module_of}
-use Rattle.mh_top.specs.Gate.{Spells}
 use Rattle.mh_top.specs.Lines.{memory_line, shelf_line, too_long_line}
-use Rattle.mh_top.specs.Run.{Complained, Complains, HasFailedFetch, HasFailedStore, IsFaultFree, KeepsNames, OnlyComplains, Run, SameNames}
+use Rattle.mh_top.specs.Run.{Complained, Complains, HasFailedFetch, IsFaultFree, OnlyComplains, Run, SameNames}
 use Rattle.mh_top.specs.Steps.{EndsSource, IsTextOf, SourceEnds, StoresText}
 use Rattle.mh_top.specs.Steps as step
 use Rattle.mh_top.specs.VerilogText.{text}

@@ -1,6 +1,6 @@
 -- Bytes that lack a stop are cut where they end.
-use Rattle.std.proofs.Common.{ℕ, zero, suc, List, [], ◌∷◌, ◌++◌, ◌≡◌, ◌+◌, ◌<◌, ◌≤◌, ◌&&◌, ◌||◌, Bool, true, false, not, cond, eqb, length, drop, codes, append_assoc, refl, sym, ap, ◌∙◌, arith}
-use Rattle.std.proofs.lemmas.Bool.{cond-true, cond-false, eq-eqb, and_parts, eqb-true, not-true, true_from_ne_false, false≢true, false_from_ne_true}
+use Rattle.std.proofs.Common.{ℕ, List, [], ◌∷◌, ◌++◌, ◌≡◌, ◌&&◌, ◌||◌, Bool, true, false, not, eqb, length, codes, append_assoc, refl, sym, ap, ◌∙◌}
+use Rattle.std.proofs.lemmas.Bool.{cond-true, cond-false, eq-eqb, and_parts, eqb-true, not-true, false≢true, false_from_ne_true}
 use Rattle.std.specs.List.{list_all, flat_map}
 use Rattle.mh_top.specs.Cuts.{before, after, after_lines}
 use Rattle.mh_top.specs.Gate.{is_lower, is_digit, is_plain_name, signal_line}

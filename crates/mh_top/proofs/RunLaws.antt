@@ -1,7 +1,7 @@
 -- How the ends of the steps of a run make the end of the run.
-use Rattle.std.proofs.Common.{ℕ, List, [], ◌∷◌, ◌++◌, ◌≡◌, ◌≢◌, ◌⊎◌, ◌+◌, ◌^◌, ◌<◌, ◌≤◌, Bool, true, false, min, length, Option, Some, None, IfSome, inl, inr, append-nil, append_assoc, refl, sym, ap, subst, ◌∙◌, arith}
-use Rattle.mh_host.specs.Shelf.{Appends, Complains as ComplainsOn, Counted, Counts, IsFront, Rose, Seen, Stores, Told}
-use Rattle.mh_top.specs.Run.{Complained, Complains, HasFailedStore, IsFaultFree, KeepsNames, OnlyComplains, Run, SameNames}
+use Rattle.std.proofs.Common.{ℕ, List, [], ◌≡◌, Bool, true, false, Option, Some, None, IfSome, append-nil, refl, sym, subst}
+use Rattle.mh_host.specs.Shelf.{Complains as ComplainsOn, Counted, Seen, Told}
+use Rattle.mh_top.specs.Run.{Complained}
 
 -- one change after another
 pub told_then : (R Q P : Seen → Seen → Type 0) (x y z : Option Seen) → ((a b c : Seen) → R a b → Q b c → P a c) → Told R x y → Told Q y z → Told P x z

@@ -1,11 +1,10 @@
 -- Four words are those of a command exactly where the test says so.
-use Rattle.std.proofs.Common.{ℕ, List, [], ◌∷◌, ◌≡◌, ◌≢◌, ◌&&◌, Bool, true, false, not, eqb, length, get_or, codes, refl, sym, ap, subst, ◌∙◌, arith}
-use Rattle.std.proofs.lemmas.Bool.{and_parts, not-true, true≢false, false_from_ne_true, eq-eqb, eqb-false, ne_eqb}
+use Rattle.std.proofs.Common.{ℕ, List, [], ◌∷◌, ◌≡◌, ◌≢◌, ◌&&◌, Bool, true, false, not, eqb, length, get_or, codes, sym, ap, subst, ◌∙◌, arith}
+use Rattle.std.proofs.lemmas.Bool.{and_parts, not-true, true≢false, false_from_ne_true, eq-eqb, ne_eqb}
 use Rattle.std.proofs.lemmas.Slice.Eq.{bytes_eq-Decides}
-use Rattle.std.specs.List.{slice_get}
 use Rattle.std.specs.Str.{bytes_eq}
 use Rattle.mh_top.specs.CommandOf.{are_convert, is_file_name}
-use Rattle.mh_top.specs.Words.{Command, Convert, Gives, GivesNone, IsConvert, IsFileName}
+use Rattle.mh_top.specs.Words.{Convert, GivesNone, IsConvert, IsFileName}
 
 file_name : (word : List ℕ) → is_file_name word ≡ true → IsFileName word
 file_name [] h = absurd (true≢false (sym h))

@@ -1,5 +1,5 @@
 -- How `convert FILE --verilog OUT` ends. These rules are this project's own.
-use Rattle.std.specs.Prelude.{ℕ, List, [], ◌≡◌, ◌≢◌, ◌⊎◌, ◌^◌, ◌<◌, ◌≤◌, Option, Some, IfSome, false, length}
+use Rattle.std.specs.Prelude.{ℕ, List, [], ◌≡◌, ◌≢◌, ◌⊎◌, ◌^◌, ◌<◌, ◌≤◌, Some, IfSome, false, length}
 use Rattle.mh_design.specs.declared.design.Design.{Design}
 use Rattle.mh_host.specs.Shelf.{Seen, Rose, Told, HeldAfter}
 use Rattle.mh_text.specs.declared.code.Code.TheVariants.{N1NotYet}

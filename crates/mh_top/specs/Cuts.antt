@@ -1,5 +1,5 @@
 -- Where the parts of a source stand. This serves the reading alone: what is cut out is spelled again and compared.
-use Rattle.std.specs.Prelude.{ℕ, zero, suc, List, [], ◌∷◌, ◌==◌, ◌+◌, Bool, if◌then◌else◌, codes, drop, length, nat_lt, Option, None, Some}
+use Rattle.std.specs.Prelude.{ℕ, zero, suc, List, [], ◌∷◌, ◌==◌, ◌+◌, if◌then◌else◌, codes, drop, length, nat_lt, Option, None, Some}
 use Rattle.std.specs.Str.{bytes_eq}
 use Rattle.mh_design.specs.declared.expression.GExpr.{GExpr}
 use Rattle.mh_design.specs.declared.expression.GExpr.TheVariants.{Signal, Not, And, Or, Xor}

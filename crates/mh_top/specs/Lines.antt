@@ -1,6 +1,5 @@
 -- The error lines. Their words are this project's own.
-use Rattle.std.specs.Prelude.{ℕ, List, [], ◌++◌, codes, decimal}
-use Rattle.std.specs.List.{flat_map}
+use Rattle.std.specs.Prelude.{ℕ, List, ◌++◌, codes, decimal}
 use Rattle.mh_text.specs.Code.{words_of}
 use Rattle.mh_text.specs.declared.code.Code.{Code}
 use Rattle.mh_top.specs.Pieces.{line}

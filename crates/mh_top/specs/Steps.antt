@@ -1,7 +1,7 @@
 -- What the steps of a conversion leave. This serves the proof alone: what the command promises is said by `ConvertEnds`.
-use Rattle.std.specs.Prelude.{ℕ, List, [], ◌≡◌, ◌⊎◌, Bool, true, false, Some}
+use Rattle.std.specs.Prelude.{ℕ, List, [], ◌≡◌, Bool, true, false}
 use Rattle.mh_design.specs.declared.design.Design.{Design}
-use Rattle.mh_host.specs.Shelf.{Seen, Counts, Told, HeldAfter}
+use Rattle.mh_host.specs.Shelf.{Seen, Told, HeldAfter}
 use Rattle.mh_text.specs.declared.code.Code.TheVariants.{N1NotYet}
 use Rattle.mh_top.specs.Convert.{OthersSame, SpellsNone}
 use Rattle.mh_top.specs.Emission.{KeepsValues, module_of}

@@ -1,5 +1,5 @@
 -- The values of Verilog expressions of single bits (IEEE 1364-2005, clause 5).
-use Rattle.std.specs.Prelude.{ℕ, Bool, true, false}
+use Rattle.std.specs.Prelude.{ℕ}
 
 -- A bit of a variable. High impedance stands nowhere in the texts, so it is left out (clause 4.1).
 pub data Bit : Type 0 where

@@ -96,7 +96,7 @@ fn other_sources_are_refused(rt: HostRuntime) -> Result<(), Fail> {
     let target = source(rt.alloc(), "a & y")?;
     let unknown = source(rt.alloc(), "a & c")?;
     let spaced = source(rt.alloc(), "a  & b")?;
-    let cut = whole.len() - 1;
+    let cut = whole.len().saturating_sub(1);
     for (name, source) in [
         ("three operands", long.as_slice()),
         ("the target is read", target.as_slice()),

@@ -1,5 +1,5 @@
 use Rattle.std.proofs.Common.{◌∙◌, sym}
-use Rattle.mh_top.proofs.WordLaws.{convert_given, four_words, nothing_given}
+use Rattle.mh_top.proofs.WordLaws.{convert_given, four_words}
 use Rattle.mh_top.proofs.command.command_of.Goals as goal
 
 pub returns-then-is_convert : goal.returns-then-is_convert

@@ -1,4 +1,4 @@
-use Rattle.std.proofs.Common.{◌≡◌, ◌+◌, ◌≤◌, drop}
+use Rattle.std.proofs.Common.{◌≡◌, ◌+◌, drop}
 use Rattle.mh_top.specs.Cuts.{place_of}
 use Rattle.mh_top.proofs.cuts.place_of.Given as goal
 
