@@ -57,3 +57,6 @@ pub fn unary(op: UnOp, a: Bits) -> Bits
         UnOp::Not => tables::not(a),
     }
 }
+
+#[cfg(test)]
+mod tests;
