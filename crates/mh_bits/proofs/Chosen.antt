@@ -1,7 +1,7 @@
 -- Vectors whose words are chosen bit by bit.
-use Rattle.std.proofs.Common.{ℕ, ◌+◌, ◌-◌, ◌≡◌, refl, sym, ap, ◌∙◌, Bool, true, false, cond, ltb}
+use Rattle.std.proofs.Common.{ℕ, ◌+◌, ◌-◌, ◌≡◌, refl, sym, ap, ◌∙◌, Bool, true, false, cond, ltb, bit_and}
 use Rattle.std.specs.Int.{bit_at, from_bool}
-use Rattle.mh_bits.specs.Vector.{Bit, low, high_digit, unknown_digit, Vector, vector_from, IsVector, bit, word, gathered}
+use Rattle.mh_bits.specs.Vector.{Bit, low, high_digit, unknown_digit, Vector, vector_from, bit, word, gathered}
 use Rattle.mh_bits.specs.Operators.{fill, shifted_left, shifted_right, extended, selected, joined}
 use Rattle.mh_bits.proofs.WordBits.{word-same}
 use Rattle.mh_bits.proofs.Gathered.{gathered_is, high_digit-bit, unknown_digit-bit}
@@ -21,10 +21,10 @@ chosen_words w val unk c x y m n i j is_val is_unk p q r s =
     (is_val ∙ word-same (λ k. cond (c k) (m k) (n k)) (λ k. high_digit (cond (c k) (x k) (y k))) w (λ k l. digit-cond high_digit (c k) (x k) (y k) (m k) (n k) (p k) (q k)))
     (is_unk ∙ word-same (λ k. cond (c k) (i k) (j k)) (λ k. unknown_digit (cond (c k) (x k) (y k))) w (λ k l. digit-cond unknown_digit (c k) (x k) (y k) (i k) (j k) (r k) (s k)))
 
-module _ (a : Vector) (p : IsVector a) where
+module _ (a : Vector) (apart : bit_and a.val a.unk ≡ 0) where
   -- the digits of a's bits, those of x bits, and 0
   ones : (from : ℕ → ℕ) (k : ℕ) → bit_at a.val (from k) ≡ high_digit (bit a (from k))
-  ones from k = sym (high_digit-bit a p.apart (from k))
+  ones from k = sym (high_digit-bit a apart (from k))
 
   xs : (from : ℕ → ℕ) (k : ℕ) → bit_at a.unk (from k) ≡ unknown_digit (bit a (from k))
   xs from k = sym (unknown_digit-bit a (from k))
@@ -70,10 +70,10 @@ module _ (a : Vector) (p : IsVector a) where
       (d ∙ word-same (λ k. bit_at a.unk (lo + k)) (λ k. unknown_digit (bit a (lo + k))) w (λ k l. xs (λ k. lo + k) k))
       ∙ ap (λ v. gathered v (λ k. bit a (lo + k))) width
 
-  pub joined_words : (b : Vector) → IsVector b → (val unk : ℕ)
+  pub joined_words : (b : Vector) → bit_and b.val b.unk ≡ 0 → (val unk : ℕ)
       → val ≡ word (λ k. cond (ltb k b.width) (bit_at b.val k) (bit_at a.val (k - b.width))) (a.width + b.width)
       → unk ≡ word (λ k. cond (ltb k b.width) (bit_at b.unk k) (bit_at a.unk (k - b.width))) (a.width + b.width)
       → vector_from (a.width + b.width) val unk ≡ joined a b
   joined_words b q val unk e d =
       chosen_words (a.width + b.width) val unk (λ k. ltb k b.width) (bit b) (λ k. bit a (k - b.width)) (bit_at b.val) (λ k. bit_at a.val (k - b.width)) (bit_at b.unk) (λ k. bit_at a.unk (k - b.width))
-      e d (λ k. sym (high_digit-bit b q.apart k)) (ones (λ k. k - b.width)) (λ k. sym (unknown_digit-bit b k)) (xs (λ k. k - b.width))
+      e d (λ k. sym (high_digit-bit b q k)) (ones (λ k. k - b.width)) (λ k. sym (unknown_digit-bit b k)) (xs (λ k. k - b.width))

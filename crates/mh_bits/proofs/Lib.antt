@@ -5,3 +5,6 @@ pub mod MovedWords
 pub mod Tabled
 pub mod Chosen
 pub mod SomeBelow
+pub mod Validity
+pub mod Selections
+pub mod KnownVectors

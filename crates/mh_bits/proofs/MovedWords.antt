@@ -3,7 +3,7 @@ use Rattle.std.proofs.Common.{ℕ, suc, ◌+◌, ◌-◌, ◌*◌, ◌/◌, ◌%
 use Rattle.std.specs.Int.{bit_at, from_bool}
 use Rattle.std.proofs.lemmas.Bool.{cases_lt, cond-true, cond-false}
 use Rattle.std.proofs.lemmas.Bool.Decides.{nat_tests}
-use Rattle.std.proofs.lemmas.Nat.{pow_pos, pow-add, mod_below, shl_whole, shl_below, or_lt, or_shifted}
+use Rattle.std.proofs.lemmas.Nat.{pow_pos, pow-add, mod_below, shl_whole, or_shifted, mul-add-lt}
 use Rattle.std.proofs.lemmas.Nat.Bits.{bit_at-zero, bit_at_above, bit_at_cat_low, bit_at_cat_high, bit_at_ones}
 use Rattle.mh_codes.proofs.Extensions.{wider}
 use Rattle.mh_bits.specs.Vector.{word}
@@ -90,13 +90,15 @@ part_of n lo w =
     (λ k l. let turned : k + lo ≡ lo + k = omega arith in bit_at-mod (n / 2 ^ lo) w k l ∙ bit_at-shr n lo k ∙ ap (bit_at n) turned)
 
 -- one word above another
-pub joined_words : (a b w v : ℕ) → w + v ≤ 128 → a < 2 ^ v → b < 2 ^ w → bit_or (a * 2 ^ w % 2 ^ 128) b ≡ word (λ k. cond (ltb k w) (bit_at b k) (bit_at a (k - w))) (v + w)
-joined_words a b w v most p q =
-    let whole = shl_whole a v w 128 p (omega arith) in
-    let high = shl_below a v w p in
-    let wide = wider w (v + w) (omega arith) in
-    let fits = or_lt (v + w) (a * 2 ^ w) b high (omega arith) in
-    ap (λ m. bit_or m b) whole ∙ word_is (bit_or (a * 2 ^ w) b) (v + w) (λ k. cond (ltb k w) (bit_at b k) (bit_at a (k - w))) fits
-    (λ k l. ap (λ m. bit_at m k) (or_shifted a w b q) ∙ chosen k w (bit_at b k) (bit_at a (k - w)) (bit_at (a * 2 ^ w + b) k)
+pub joined_sum : (a b w v : ℕ) → a < 2 ^ v → b < 2 ^ w → a * 2 ^ w + b ≡ word (λ k. cond (ltb k w) (bit_at b k) (bit_at a (k - w))) (v + w)
+joined_sum a b w v p q =
+    let fits = mul-add-lt a (2 ^ w) b (2 ^ v) p q in
+    let e : v + w ≡ w + v = omega arith in
+    let power = ap (λ k. 2 ^ k) e ∙ pow-add 2 w v in
+    word_is (a * 2 ^ w + b) (v + w) (λ k. cond (ltb k w) (bit_at b k) (bit_at a (k - w))) (omega arith)
+    (λ k l. chosen k w (bit_at b k) (bit_at a (k - w)) (bit_at (a * 2 ^ w + b) k)
     (λ below. bit_at_cat_low a w b k below)
     (λ above. bit_at_cat_high a w b k q above))
+
+pub joined_words : (a b w v : ℕ) → w + v ≤ 128 → a < 2 ^ v → b < 2 ^ w → bit_or (a * 2 ^ w % 2 ^ 128) b ≡ word (λ k. cond (ltb k w) (bit_at b k) (bit_at a (k - w))) (v + w)
+joined_words a b w v most p q = ap (λ m. bit_or m b) (shl_whole a v w 128 p (omega arith)) ∙ or_shifted a w b q ∙ joined_sum a b w v p q

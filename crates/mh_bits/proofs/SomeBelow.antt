@@ -1,6 +1,7 @@
 -- A word is 0 where no digit is 1: tests of vectors.
-use Rattle.std.proofs.Common.{ℕ, zero, suc, ◌+◌, ◌*◌, ◌^◌, ◌≡◌, refl, sym, ap, ◌∙◌, Bool, true, false, cond, not, ◌&&◌, ◌||◌, eqb, bit_or, arith}
+use Rattle.std.proofs.Common.{ℕ, zero, suc, ◌+◌, ◌*◌, ◌^◌, ◌<◌, ◌≡◌, refl, sym, ap, ◌∙◌, Bool, true, false, cond, not, ◌&&◌, ◌||◌, eqb, bit_or, inl, inr, ◌↔◌, arith}
 use Rattle.std.specs.Int.{from_bool}
+use Rattle.std.proofs.lemmas.Bool.{cases_lt}
 use Rattle.std.proofs.lemmas.Bool.Decides.{nat_tests}
 use Rattle.std.proofs.lemmas.Nat.{pow_pos, le_or_l, le_or_r}
 use Rattle.mh_bits.specs.Vector.{Bit, low, high, unknown, high_digit, Vector, IsVector, bit, word, some_below}
@@ -32,6 +33,39 @@ truth_of-val a p =
     let ones = word-same (λ k. high_digit (bit a k)) (λ k. from_bool (is_high (bit a k))) a.width (λ k l. high_digit-is (bit a k)) in
     let is = ap (λ v. v.val) (gathered-bit a p) in
     sym (ap (λ n. not (eqb n 0)) (sym is ∙ ones) ∙ ap not (word_none (λ k. is_high (bit a k)) a.width) ∙ not-not (truth_of a))
+
+-- what holds of some place
+some_below-place : (p : ℕ → Bool) (w : ℕ) → some_below p w ≡ true → (k : ℕ) × (k < w) × (p k ≡ true)
+unfolding some_below
+some_below-place p zero e = absurd (cc)
+some_below-place p (suc w) e = by (p w) refl e (some_below-place p w)
+  where
+    by : (b : Bool) → p w ≡ b → (b || some_below p w) ≡ true → (some_below p w ≡ true → (k : ℕ) × (k < w) × (p k ≡ true)) → (k : ℕ) × (k < suc w) × (p k ≡ true)
+    by true h e below = (w, omega arith, h)
+    by false h e below = let r = below e in (r.0, omega arith, r.2)
+
+some_below-true : (p : ℕ → Bool) (w k : ℕ) → k < w → p k ≡ true → some_below p w ≡ true
+unfolding some_below
+some_below-true p zero k l e = absurd (omega arith)
+some_below-true p (suc w) k l e = by (p w) refl (λ h. some_below-true p w k h e)
+  where
+    by : (b : Bool) → p w ≡ b → (k < w → some_below p w ≡ true) → (b || some_below p w) ≡ true
+    by true h below = refl
+    by false h below = elim (cases_lt k w) [
+      | inl m ↦ below m
+      | inr m ↦ let same : k ≡ w = omega arith in absurd (cc (ap p same, e, h))
+    ]
+
+is_high-true : (x : Bit) → is_high x ≡ true → x ≡ high
+is_high-true low e = absurd (cc)
+is_high-true high e = refl
+is_high-true unknown e = absurd (cc)
+
+pub truth_of-one : (a : Vector) → (truth_of a ≡ true) ↔ ((k : ℕ) × (k < a.width) × (bit a k ≡ high))
+truth_of-one a = (
+  λ e. let r = some_below-place (λ k. is_high (bit a k)) a.width e in (r.0, r.1, is_high-true (bit a r.0) r.2),
+  λ r. some_below-true (λ k. is_high (bit a k)) a.width r.0 r.1 (ap is_high r.2),
+)
 
 -- both words of x bits are 0 where their union is
 pub none_unknown : (m n : ℕ) → (eqb m 0 && eqb n 0) ≡ eqb (bit_or m n) 0

@@ -145,6 +145,16 @@ binary_of Le a b s = where_known (is_known a && is_known b) (tested (int_le (num
 binary_of Gt a b s = where_known (is_known a && is_known b) (tested (int_lt (number_of s b) (number_of s a)))
 binary_of Ge a b s = where_known (is_known a && is_known b) (tested (int_le (number_of s b) (number_of s a)))
 
+-- Its width: a comparison's is 1, and else that of the first operand.
+abbrev pub result_width : BinOp → ℕ → ℕ
+result_width Eq w = 1
+result_width Ne w = 1
+result_width Lt w = 1
+result_width Le w = 1
+result_width Gt w = 1
+result_width Ge w = 1
+result_width op w = w
+
 -- The operands' widths: equal, but for the shifts, whose amount has a width of its own.
 abbrev pub WidthsFit : BinOp → ℕ → ℕ → Type 0
 WidthsFit Shl v w = Unit {0}

@@ -7,6 +7,7 @@ ghost use Rattle.std.specs.Prelude.{◌≡◌};
 ghost use Rattle.mh_bits.specs.Operators.{binary_of, unary_of, WidthsFit};
 ghost use Rattle.mh_bits.specs.View.{vector_of};
 
+mod laws;
 mod moves;
 mod numbers;
 mod tables;
@@ -14,6 +15,10 @@ mod values;
 mod vectors;
 mod words;
 
+pub use laws::{
+    absorption_laws, arithmetic_laws, bit_laws, known_laws, number_laws, part_laws, truth_laws,
+    width_laws,
+};
 pub use moves::{cat, extend, select};
 pub use tables::truth;
 pub use values::{BinOp, Bits, UnOp};
