@@ -1,5 +1,5 @@
 -- What the operators give on vectors without x: numbers and codes.
-use Rattle.std.proofs.Common.{ℕ, zero, suc, ℤ, pos, negsuc, ◌+◌, ◌-◌, ◌*◌, ◌/◌, ◌%◌, ◌^◌, ◌<◌, ◌≤◌, ◌+ℤ◌, ◌-ℤ◌, ◌*ℤ◌, neg_ℤ, ◌≡◌, refl, sym, ap, ◌∙◌, Bool, true, false, cond, ltb, eqb, not, int_div, int_rem, int_lt, int_le, bit_and, bit_or, bit_xor, arith}
+use Rattle.std.proofs.Common.{ℕ, zero, suc, ℤ, pos, negsuc, ◌+◌, ◌-◌, ◌*◌, ◌/◌, ◌%◌, ◌^◌, ◌<◌, ◌≤◌, ◌+ℤ◌, ◌-ℤ◌, ◌*ℤ◌, neg_ℤ, ◌≡◌, refl, sym, ap, ◌∙◌, Bool, true, false, cond, ltb, eqb, not, ◌&&◌, int_div, int_rem, int_lt, int_le, bit_and, bit_or, bit_xor, arith}
 use Rattle.std.specs.Int.{bit_at, from_bool}
 use Rattle.std.proofs.lemmas.Bool.{ltb-true}
 use Rattle.std.proofs.lemmas.Bool.Decides.{nat_tests}
@@ -15,8 +15,9 @@ use Rattle.mh_codes.proofs.Numbers.{code-number, number-code, fits_wider}
 use Rattle.mh_codes.proofs.Extensions.{wider, low_extends, high_extends, unsigned_extends}
 use Rattle.mh_bits.specs.declared.values.BinOp.TheVariants.{Add, Sub, Mul, Div, Rem, Lt, Le, Gt, Ge}
 use Rattle.mh_bits.specs.declared.values.UnOp.TheVariants.{Neg}
-use Rattle.mh_bits.specs.Vector.{Bit, low, high, unknown, bit_from, Vector, vector_from, known, gathered, bit, word}
-use Rattle.mh_bits.specs.Operators.{binary_of, unary_of, coded, number_of, divided, tested, bitwise, and_bit, or_bit, xor_bit, inverted, shifted_left, shifted_right, fill, extended, selected, joined, differs, equality, truth_of}
+use Rattle.mh_bits.specs.Vector.{Bit, low, high, unknown, bit_from, Vector, IsVector, is_known, vector_from, known, gathered, bit, word}
+use Rattle.mh_bits.proofs.Arithmetic.{sum_word, difference_word, product_word}
+use Rattle.mh_bits.specs.Operators.{by_number, where_known, binary_of, unary_of, coded, number_of, divided, tested, bitwise, and_bit, or_bit, xor_bit, inverted, shifted_left, shifted_right, fill, extended, selected, joined, differs, equality, truth_of}
 use Rattle.mh_bits.proofs.WordBits.{word_is, word-same, bit_at-word}
 use Rattle.mh_bits.proofs.SomeBelow.{equality-same, equality-apart, truth_of-val}
 use Rattle.mh_bits.proofs.Gathered.{bit-gathered, gathered-same}
@@ -219,6 +220,26 @@ module _ (s : Bool) (w : ℕ) (x y : ℤ) where
 
     pub greater_or_equal-coded : binary_of Ge (coded w x) (coded w y) s ≡ tested (int_le y x)
     greater_or_equal-coded = numbers (λ i j. tested (int_le j i))
+
+-- the sign makes no difference to sums, differences and products
+module _ (a b : Vector) (p : IsVector a) (q : IsVector b) (e : a.width ≡ b.width) where
+  second : b.val < 2 ^ a.width
+  second = let f = ap (λ k. 2 ^ k) e in omega (arith, q.val_within)
+
+  same_sign : (f : ℤ → ℤ → ℤ) → ((s : Bool) → code a.width (f (number s a.width a.val) (number s a.width b.val)) ≡ code a.width (f (number false a.width a.val) (number false a.width b.val))) → (s : Bool) → by_number (λ x y. coded a.width (f x y)) s a b ≡ by_number (λ x y. coded a.width (f x y)) false a b
+  same_sign f h s =
+      ap (λ w. where_known (is_known a && is_known b) (known a.width (code a.width (f (number s a.width a.val) (number s w b.val))))) (sym e)
+      ∙ ap (λ n. where_known (is_known a && is_known b) (known a.width n)) (h s)
+      ∙ ap (λ w. where_known (is_known a && is_known b) (known a.width (code a.width (f (number false a.width a.val) (number false w b.val))))) e
+
+  pub sum-sign : (s : Bool) → binary_of Add a b s ≡ binary_of Add a b false
+  sum-sign = same_sign (λ x y. x +ℤ y) (λ s. sym (sum_word a.width a.val b.val p.word_bits p.val_within second s) ∙ sum_word a.width a.val b.val p.word_bits p.val_within second false)
+
+  pub difference-sign : (s : Bool) → binary_of Sub a b s ≡ binary_of Sub a b false
+  difference-sign = same_sign (λ x y. x -ℤ y) (λ s. sym (difference_word a.width a.val b.val p.word_bits p.val_within second s) ∙ difference_word a.width a.val b.val p.word_bits p.val_within second false)
+
+  pub product-sign : (s : Bool) → binary_of Mul a b s ≡ binary_of Mul a b false
+  product-sign = same_sign (λ x y. x *ℤ y) (λ s. sym (product_word a.width a.val b.val p.word_bits p.val_within second s) ∙ product_word a.width a.val b.val p.word_bits p.val_within second false)
 
 pub negation-coded : (w : ℕ) (x : ℤ) → unary_of Neg (coded w x) ≡ coded w (neg_ℤ x)
 negation-coded w x =

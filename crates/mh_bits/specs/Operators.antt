@@ -1,4 +1,4 @@
--- The operators of IEEE 1364-2005 on vectors of one width.
+-- The operators of IEEE 1364-2005 on vectors: by the table of one bit, by number, and by moving bits.
 use Rattle.std.specs.Prelude.{ℕ, zero, suc, ℤ, pos, negsuc, ◌+◌, ◌-◌, ◌+ℤ◌, ◌-ℤ◌, ◌*ℤ◌, neg_ℤ, int_div, int_rem, int_lt, int_le, Bool, true, false, ◌&&◌, nat_lt, ◌≡◌, if◌then◌else◌, Option, Some, None}
 use Rattle.mh_codes.specs.Codes.{code, number}
 use Rattle.mh_bits.specs.Vector.{Bit, low, high, unknown, Vector, bit, gathered, some_below, known, all_unknown, is_known}
@@ -65,7 +65,7 @@ differs unknown y = false
 differs low unknown = false
 differs high unknown = false
 
--- `==` (5.1.8): 0 where two known bits differ, else x where a bit is x, since then the relation is
+-- `==`, whose negation is `!=` (5.1.8): 0 where two known bits differ, else x where a bit is x, since then the relation is
 -- ambiguous, else 1.
 abbrev pub equality : Vector → Vector → Bit
 equality a b =
@@ -103,6 +103,10 @@ coded w z = known w (code w z)
 abbrev pub where_known : Bool → Vector → Vector
 where_known k v = if k then v else all_unknown v.width
 
+-- An operator on the two numbers, read as signed or not: x in every bit where an operand has an x bit.
+abbrev pub by_number : (ℤ → ℤ → Vector) → Bool → Vector → Vector → Vector
+by_number f s a b = where_known (is_known a && is_known b) (f (number_of s a) (number_of s b))
+
 -- `/` and `%` drop the fraction towards 0, and the remainder has the dividend's sign; a divisor of 0
 -- gives x in every bit.
 abbrev pub divided : (ℤ → ℤ → ℤ) → ℕ → ℤ → ℤ → Vector
@@ -112,7 +116,11 @@ divided f w x (negsuc n) = coded w (f x (negsuc n))
 
 -- ---- by moving bits (5.1.12)
 
--- What fills the vacated places: the top bit in a signed `>>>`, x too, and else 0.
+-- A shift by the amount b, which is never read as signed: an x bit in it makes every bit x.
+abbrev pub by_amount : (ℕ → Vector) → Vector → Vector
+by_amount f b = where_known (is_known b) (f b.val)
+
+-- The bits of a move with their x. What fills the vacated places: the top bit in a signed `>>>`, x too, and else 0.
 abbrev pub fill : Bool → Vector → Bit
 fill s a = if s then bit a (a.width - 1) else low
 
@@ -124,26 +132,26 @@ shifted_right f a n = gathered a.width (λ k. if nat_lt (k + n) a.width then bit
 
 -- ---- all of them
 
--- `binary`: `s` says how `/ % >>>` and the orderings read their operands. For `+ - *` it makes no
--- difference.
+-- What `binary` gives: `s` says how `/ % >>>` and the orderings read their operands (5.5). It makes no
+-- difference to `+ - *`, which are modulo 2 ^ w.
 abbrev pub binary_of : BinOp → Vector → Vector → Bool → Vector
-binary_of Add a b s = where_known (is_known a && is_known b) (coded a.width (number_of s a +ℤ number_of s b))
-binary_of Sub a b s = where_known (is_known a && is_known b) (coded a.width (number_of s a -ℤ number_of s b))
-binary_of Mul a b s = where_known (is_known a && is_known b) (coded a.width (number_of s a *ℤ number_of s b))
-binary_of Div a b s = where_known (is_known a && is_known b) (divided int_div a.width (number_of s a) (number_of s b))
-binary_of Rem a b s = where_known (is_known a && is_known b) (divided int_rem a.width (number_of s a) (number_of s b))
+binary_of Add a b s = by_number (λ x y. coded a.width (x +ℤ y)) s a b
+binary_of Sub a b s = by_number (λ x y. coded a.width (x -ℤ y)) s a b
+binary_of Mul a b s = by_number (λ x y. coded a.width (x *ℤ y)) s a b
+binary_of Div a b s = by_number (divided int_div a.width) s a b
+binary_of Rem a b s = by_number (divided int_rem a.width) s a b
 binary_of And a b s = bitwise and_bit a b
 binary_of Or a b s = bitwise or_bit a b
 binary_of Xor a b s = bitwise xor_bit a b
-binary_of Shl a b s = where_known (is_known b) (shifted_left a b.val)
-binary_of Shr a b s = where_known (is_known b) (shifted_right low a b.val)
-binary_of Sar a b s = where_known (is_known b) (shifted_right (fill s a) a b.val)
+binary_of Shl a b s = by_amount (shifted_left a) b
+binary_of Shr a b s = by_amount (shifted_right low a) b
+binary_of Sar a b s = by_amount (shifted_right (fill s a) a) b
 binary_of Eq a b s = single (equality a b)
 binary_of Ne a b s = single (not_bit (equality a b))
-binary_of Lt a b s = where_known (is_known a && is_known b) (tested (int_lt (number_of s a) (number_of s b)))
-binary_of Le a b s = where_known (is_known a && is_known b) (tested (int_le (number_of s a) (number_of s b)))
-binary_of Gt a b s = where_known (is_known a && is_known b) (tested (int_lt (number_of s b) (number_of s a)))
-binary_of Ge a b s = where_known (is_known a && is_known b) (tested (int_le (number_of s b) (number_of s a)))
+binary_of Lt a b s = by_number (λ x y. tested (int_lt x y)) s a b
+binary_of Le a b s = by_number (λ x y. tested (int_le x y)) s a b
+binary_of Gt a b s = by_number (λ x y. tested (int_lt y x)) s a b
+binary_of Ge a b s = by_number (λ x y. tested (int_le y x)) s a b
 
 -- Its width: a comparison's is 1, and else that of the first operand.
 abbrev pub result_width : BinOp → ℕ → ℕ
@@ -166,26 +174,27 @@ WidthsFit op v w = v ≡ w
 abbrev pub inverted : Vector → Vector
 inverted a = gathered a.width (λ k. not_bit (bit a k))
 
--- `unary`
+-- What `unary` gives.
 abbrev pub unary_of : UnOp → Vector → Vector
 unary_of Neg a = where_known (is_known a) (coded a.width (neg_ℤ (number_of false a)))
 unary_of Not a = inverted a
 
 -- ---- widths (5.4, 5.5.4), part-selects (5.2.1) and concatenations (5.1.14)
 
--- `extend`: to w bits, by the top bit (x too) where the vector is signed, and else by 0.
+-- What `extend` gives: w bits, those above by the top bit (x too) where the vector is signed, else 0.
 abbrev pub extended : Vector → ℕ → Bool → Vector
 extended a w s = gathered w (λ k. if nat_lt k a.width then bit a k else fill s a)
 
--- `select`: the bits from hi down to lo.
+-- What `select` gives: the bits from hi down to lo.
 abbrev pub selected : Vector → ℕ → ℕ → Vector
 selected a hi lo = gathered (hi + 1 - lo) (λ k. bit a (lo + k))
 
--- `cat`: a's bits above those of b.
+-- What `cat` gives: the bits of a above those of b.
 abbrev pub joined : Vector → Vector → Vector
-joined a b = gathered (a.width + b.width) (λ k. if nat_lt k b.width then bit b k else bit a (k - b.width))
+joined a b =
+    gathered (a.width + b.width) (λ k. if nat_lt k b.width then bit b k else bit a (k - b.width))
 
--- `truth`: some bit is 1 (9.4).
+-- What `truth` gives: some bit is 1 (9.4).
 abbrev pub is_high : Bit → Bool
 is_high low = false
 is_high high = true

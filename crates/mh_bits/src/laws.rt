@@ -59,7 +59,8 @@ pub fn absorption_laws()
         bit (binary_of BinOp.Or a b s) k ≡ high }
 {}
 
-/// Vectors without x compute as integers modulo 2 ^ w: sums, differences, products and negations.
+/// Vectors without x add, subtract, multiply and negate as integers modulo 2 ^ w do, whatever sign
+/// they are read with.
 pub fn arithmetic_laws()
     ensures sum { (s : Bool) (w : ℕ) (x y : ℤ) →
         binary_of BinOp.Add (coded w x) (coded w y) s ≡ coded w (x +ℤ y) }
@@ -68,6 +69,12 @@ pub fn arithmetic_laws()
     ensures product { (s : Bool) (w : ℕ) (x y : ℤ) →
         binary_of BinOp.Mul (coded w x) (coded w y) s ≡ coded w (x *ℤ y) }
     ensures negation { (w : ℕ) (x : ℤ) → unary_of UnOp.Neg (coded w x) ≡ coded w (neg_ℤ x) }
+    ensures sum_sign { (a b : Vector) → IsVector a → IsVector b → a.width ≡ b.width → (s : Bool) →
+        binary_of BinOp.Add a b s ≡ binary_of BinOp.Add a b false }
+    ensures difference_sign { (a b : Vector) → IsVector a → IsVector b → a.width ≡ b.width →
+        (s : Bool) → binary_of BinOp.Sub a b s ≡ binary_of BinOp.Sub a b false }
+    ensures product_sign { (a b : Vector) → IsVector a → IsVector b → a.width ≡ b.width →
+        (s : Bool) → binary_of BinOp.Mul a b s ≡ binary_of BinOp.Mul a b false }
 {}
 
 /// At sufficient width the result stands for the integer itself.
