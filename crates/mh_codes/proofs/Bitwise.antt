@@ -11,6 +11,7 @@ use lib.Arith.{digits_mod}
 and_apart : (w r s : ℕ) → r < 2 ^ w → s < 2 ^ w → bit_and r (2 ^ w - 1 - s) ≡ r - bit_and r s
 and_apart w r s p q = let e = and-not w s r q p in let f = and_comm r (2 ^ w - 1 - s) in let g = and_comm r s in omega (arith, e, f, g)
 
+-- bits that are in neither
 neither : (w r s : ℕ) → r < 2 ^ w → s < 2 ^ w → bit_and (2 ^ w - 1 - r) (2 ^ w - 1 - s) ≡ 2 ^ w - 1 - bit_or r s
 neither w r s p q =
     let e = and_apart w (2 ^ w - 1 - r) s (omega arith) q in
@@ -21,12 +22,14 @@ neither w r s p q =
     let l = and_le_r r s in
     omega (arith, e, f, g, h, k, l)
 
+-- the same for `|`, of which one or both operands are inverted
 or_apart : (w r s : ℕ) → r < 2 ^ w → s < 2 ^ w → bit_or r (2 ^ w - 1 - s) ≡ 2 ^ w - 1 - (s - bit_and r s)
 or_apart w r s p q = let e = and_apart w r s p q in let k = or_add_and r (2 ^ w - 1 - s) in let l = and_le_r r s in let m = and_le_l r s in omega (arith, e, k, l, m)
 
 or_neither : (w r s : ℕ) → r < 2 ^ w → s < 2 ^ w → bit_or (2 ^ w - 1 - r) (2 ^ w - 1 - s) ≡ 2 ^ w - 1 - bit_and r s
 or_neither w r s p q = let e = neither w r s p q in let k = or_add_and (2 ^ w - 1 - r) (2 ^ w - 1 - s) in let m = or_add_and r s in let l = or_lt w r s p q in let n = and_le_l r s in omega (arith, e, k, l, m, n)
 
+-- and for `^`
 xor_apart : (w r s : ℕ) → r < 2 ^ w → s < 2 ^ w → bit_xor r (2 ^ w - 1 - s) ≡ 2 ^ w - 1 - bit_xor r s
 xor_apart w r s p q = let e = and_apart w r s p q in let k = xor_add_and r (2 ^ w - 1 - s) in let m = xor_add_and r s in let l = and_le_r r s in let n = and_le_l r s in omega (arith, e, k, l, m, n)
 
@@ -60,18 +63,21 @@ module _ (w : ℕ) where
   low : (n : ℕ) → n % 2 ^ w < 2 ^ w
   low n = mod_below n (2 ^ w) (pow_pos w)
 
+  -- the code of `&`, by the signs of the operands
   pub code-and : (a b : ℤ) → code w (integer_and a b) ≡ bit_and (code w a) (code w b)
   code-and (pos a) (pos b) = and_mod a b w
   code-and (pos a) (negsuc b) = minus_mod w a b ∙ sym (and_apart w (a % 2 ^ w) (b % 2 ^ w) (low a) (low b))
   code-and (negsuc a) (pos b) = ap (λ x. (b - x) % 2 ^ w) (and_comm a b) ∙ minus_mod w b a ∙ sym (and_apart w (b % 2 ^ w) (a % 2 ^ w) (low b) (low a)) ∙ and_comm (b % 2 ^ w) (2 ^ w - 1 - a % 2 ^ w)
   code-and (negsuc a) (negsuc b) = ap (λ x. 2 ^ w - 1 - x) (or_mod a b w) ∙ sym (neither w (a % 2 ^ w) (b % 2 ^ w) (low a) (low b))
 
+  -- the code of `|`
   pub code-or : (a b : ℤ) → code w (integer_or a b) ≡ bit_or (code w a) (code w b)
   code-or (pos a) (pos b) = or_mod a b w
   code-or (pos a) (negsuc b) = ap (λ x. 2 ^ w - 1 - (b - x) % 2 ^ w) (and_comm a b) ∙ ap (λ x. 2 ^ w - 1 - x) (minus_mod w b a ∙ ap (λ x. b % 2 ^ w - x) (and_comm (b % 2 ^ w) (a % 2 ^ w))) ∙ sym (or_apart w (a % 2 ^ w) (b % 2 ^ w) (low a) (low b))
   code-or (negsuc a) (pos b) = ap (λ x. 2 ^ w - 1 - x) (minus_mod w a b ∙ ap (λ x. a % 2 ^ w - x) (and_comm (a % 2 ^ w) (b % 2 ^ w))) ∙ sym (or_apart w (b % 2 ^ w) (a % 2 ^ w) (low b) (low a)) ∙ or_comm (b % 2 ^ w) (2 ^ w - 1 - a % 2 ^ w)
   code-or (negsuc a) (negsuc b) = ap (λ x. 2 ^ w - 1 - x) (and_mod a b w) ∙ sym (or_neither w (a % 2 ^ w) (b % 2 ^ w) (low a) (low b))
 
+  -- the code of `^`
   pub code-xor : (a b : ℤ) → code w (integer_xor a b) ≡ bit_xor (code w a) (code w b)
   code-xor (pos a) (pos b) = xor_mod a b w
   code-xor (pos a) (negsuc b) = ap (λ x. 2 ^ w - 1 - x) (xor_mod a b w) ∙ sym (xor_apart w (a % 2 ^ w) (b % 2 ^ w) (low a) (low b))

@@ -29,10 +29,12 @@ pub code_read : (w : ℕ) (z : ℤ) → (j : ℕ) × (k : ℕ) × (up z + j * 2 
 code_read w (pos n) = (0, n / 2 ^ w, let e = shr_split n w in omega arith)
 code_read w (negsuc n) = (suc (n / 2 ^ w), 0, let e = shr_split n w in let h = mod_below n (2 ^ w) (pow_pos w) in let p = pow_pos w in omega arith)
 
+-- a code has no more than its bits
 pub code_below : (w : ℕ) (z : ℤ) → code w z < 2 ^ w
 code_below w (pos n) = mod_below n (2 ^ w) (pow_pos w)
 code_below w (negsuc n) = let p = pow_pos w in omega arith
 
+-- the code of a sum, a difference and a product
 pub code-add : (w : ℕ) (a b : ℤ) → code w (a +ℤ b) ≡ (code w a + code w b) % 2 ^ w
 code-add w a b =
     let r = code_read w a in
@@ -69,6 +71,7 @@ code_cut w v z l =
     let k = ap (λ k. r.1 * k) m in
     sym (code_same v z (pos (code w z)) (r.0 * 2 ^ (w - v)) (r.1 * 2 ^ (w - v)) (omega (arith, r.2)))
 
+-- the higher part of a number whose bits are inverted
 complement_div : (p q r : ℕ) → 0 < q → r < p * q → (p * q - 1 - r) / q ≡ p - 1 - r / q
 complement_div p q r some h =
     let e = div-add-mod' r q in

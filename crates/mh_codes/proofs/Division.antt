@@ -5,10 +5,12 @@ use Rattle.std.proofs.lemmas.Nat.{mod_below, div-add-mod', div-mul-add, mod-mul-
 use borrow.Author.Differences.{sum_is_lem, product_is}
 use Rattle.mh_codes.specs.Integers.{floor_div, floor_mod}
 
+-- the remainder is below the divisor
 pub floor_mod_below : (z : ℤ) (d : ℕ) → 0 < d → floor_mod z d < d
 floor_mod_below (pos n) d some = mod_below n d some
 floor_mod_below (negsuc n) d some = omega arith
 
+-- the law of floor division
 pub floor_division : (z : ℤ) (d : ℕ) → 0 < d → z ≡ (floor_div z d *ℤ pos d) +ℤ pos (floor_mod z d)
 floor_division (pos n) d some = let e = div-add-mod' n d in omega (arith, ints, sum_is_lem, product_is)
 floor_division (negsuc n) d some = let e = div-add-mod' n d in let l = mod_below n d some in omega (arith, ints, sum_is_lem, product_is)

@@ -19,6 +19,7 @@ least_of p q r s = int_min (int_min p q) (int_min r s)
 abbrev pub greatest_of : ℤ → ℤ → ℤ → ℤ → ℤ
 greatest_of p q r s = int_max (int_max p q) (int_max r s)
 
+-- the ends of a sum and of a difference
 pub sum_within : (a b c d x y : ℤ) → Within a b x → Within c d y → Within (a +ℤ c) (b +ℤ d) (x +ℤ y)
 sum_within a b c d x y i j = let p = i.low in let q = i.high in let r = j.low in let s = j.high in record { low = omega (arith, ints); high = omega (arith, ints) }
 
@@ -29,6 +30,7 @@ difference_within a b c d x y i j = let p = i.low in let q = i.high in let r = j
 abbrev pub Between : ℤ → ℤ → ℤ → Type 0
 Between p q r = (p ≤ℤ r) × (r ≤ℤ q) ⊎ (q ≤ℤ r) × (r ≤ℤ p)
 
+-- the lesser is below both, and the greater above
 min_left : (a b : ℤ) → int_min a b ≤ℤ a
 min_left a b = omega (arith, ints, clamps)
 
@@ -46,8 +48,9 @@ within_bounds : (p q r l m : ℤ) → Between p q r → l ≤ℤ p → l ≤ℤ 
 within_bounds p q r l m (inl h) a b c d = let e = h.0 in let f = h.1 in (omega (arith, ints), omega (arith, ints))
 within_bounds p q r l m (inr h) a b c d = let e = h.0 in let f = h.1 in (omega (arith, ints), omega (arith, ints))
 
-pub four : (p q r s t u v : ℤ) → Between t u v → Between p q t → Between r s u → (least_of p q r s ≤ℤ v) × (v ≤ℤ greatest_of p q r s)
-four p q r s t u v a b c =
+-- a value between values between corners lies between the least and the greatest of them
+pub between_corners : (p q r s t u v : ℤ) → Between t u v → Between p q t → Between r s u → (least_of p q r s ≤ℤ v) × (v ≤ℤ greatest_of p q r s)
+between_corners p q r s t u v a b c =
     let l = least_of p q r s in
     let m = greatest_of p q r s in
     let ll = min_left (int_min p q) (int_min r s) in
@@ -70,16 +73,19 @@ times_up a x n h =
     let f = mul-le-mul_right n e in
     omega (arith, ints)
 
+-- and the other way with a negative factor
 times_down : (a x : ℤ) (n : ℕ) → a ≤ℤ x → (x *ℤ negsuc n) ≤ℤ (a *ℤ negsuc n)
 times_down a x n h =
     let e : up a + down x ≤ up x + down a = omega (arith, ints) in
     let f = mul-le-mul_right (suc n) e in
     omega (arith, ints)
 
+-- so a product lies between those of the ends of its left factor
 pub times_between : (a b x y : ℤ) → a ≤ℤ x → x ≤ℤ b → Between (a *ℤ y) (b *ℤ y) (x *ℤ y)
 times_between a b x (pos n) h k = inl (times_up a x n h, times_up x b n k)
 times_between a b x (negsuc n) h k = inr (times_down x b n k, times_down a x n h)
 
+-- the same for the right factor
 up_times : (a x : ℤ) (n : ℕ) → a ≤ℤ x → (pos n *ℤ a) ≤ℤ (pos n *ℤ x)
 up_times a x n h =
     let e : up a + down x ≤ up x + down a = omega (arith, ints) in
@@ -92,6 +98,7 @@ down_times a x n h =
     let f = mul-le-mul_left (suc n) e in
     omega (arith, ints)
 
+-- and of its right factor
 pub between_times : (c d y a : ℤ) → c ≤ℤ y → y ≤ℤ d → Between (a *ℤ c) (a *ℤ d) (a *ℤ y)
 between_times c d y (pos n) h k = inl (up_times c y n h, up_times y d n k)
 between_times c d y (negsuc n) h k = inr (down_times y d n k, down_times c y n h)
@@ -100,15 +107,18 @@ between_times c d y (negsuc n) h k = inr (down_times y d n k, down_times c y n h
 div_up : (a x n : ℕ) → 0 < n → a ≤ x → a / n ≤ x / n
 div_up a x n p l = let e = div-add-mod' a n in le-div (a / n) x n p (omega arith)
 
+-- a greater divisor gives a lesser quotient
 div_nearer : (a m n : ℕ) → 0 < m → m ≤ n → a / n ≤ a / m
 div_nearer a m n p l = let e = div-add-mod' a n in let f = mul-le-mul_left (a / n) l in le-div (a / n) a m p (omega arith)
 
+-- floor division grows with its dividend
 floor_div_up : (a x : ℤ) (n : ℕ) → 0 < n → a ≤ℤ x → floor_div a n ≤ℤ floor_div x n
 floor_div_up (pos a) (pos x) n p h = let l : a ≤ x = omega (arith, ints) in let e = div_up a x n p l in omega (arith, ints)
 floor_div_up (pos a) (negsuc x) n p h = absurd (omega (arith, ints))
 floor_div_up (negsuc a) (pos x) n p h = omega (arith, ints)
 floor_div_up (negsuc a) (negsuc x) n p h = let l : x ≤ a = omega (arith, ints) in let e = div_up x a n p l in omega (arith, ints)
 
+-- so a quotient lies between those of the ends of its dividend
 pub floor_div_between : (a b x : ℤ) (n : ℕ) → 0 < n → a ≤ℤ x → x ≤ℤ b → Between (floor_div a n) (floor_div b n) (floor_div x n)
 floor_div_between a b x n p h k = inl (floor_div_up a x n p h, floor_div_up x b n p k)
 
@@ -119,7 +129,8 @@ between_floor_div c d y (negsuc a) p h k = let q : 0 < y = omega arith in let e 
 
 -- a function that is between its values at the ends in each argument lies between its corners
 pub corners_within : (f : ℤ → ℤ → ℤ) (a b c d x y : ℤ) → Between (f a y) (f b y) (f x y) → Between (f a c) (f a d) (f a y) → Between (f b c) (f b d) (f b y) → Within (least_of (f a c) (f a d) (f b c) (f b d)) (greatest_of (f a c) (f a d) (f b c) (f b d)) (f x y)
-corners_within f a b c d x y h k l = let r = four _ _ _ _ _ _ _ h k l in record { low = r.0; high = r.1 }
+corners_within f a b c d x y h k l = let r = between_corners _ _ _ _ _ _ _ h k l in record { low = r.0; high = r.1 }
 
+-- the ends of a product are among its four corners
 pub product_within : (a b c d x y : ℤ) → Within a b x → Within c d y → Within (least_of (a *ℤ c) (a *ℤ d) (b *ℤ c) (b *ℤ d)) (greatest_of (a *ℤ c) (a *ℤ d) (b *ℤ c) (b *ℤ d)) (x *ℤ y)
 product_within a b c d x y i j = corners_within (λ x y. x *ℤ y) a b c d x y (times_between a b x y i.low i.high) (between_times c d y a j.low j.high) (between_times c d y b j.low j.high)

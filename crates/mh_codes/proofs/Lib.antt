@@ -1,3 +1,4 @@
+pub mod Powers
 pub mod Division
 pub mod Codes
 pub mod Bitwise
@@ -7,3 +8,5 @@ pub mod Intervals
 pub mod Extensions
 pub mod Bits
 pub mod WidthLaws
+pub mod Wrapping
+pub mod Slices

@@ -3,11 +3,11 @@ use Rattle.std.proofs.Common.{ℕ, zero, suc, ℤ, pos, negsuc, ◌+◌, ◌/◌
 use Rattle.std.proofs.lemmas.Int.{ints}
 use Rattle.std.proofs.lemmas.Nat.{pow-add}
 use Rattle.std.proofs.Math.Nat.{pow-le-pow_right}
-use Rattle.mh_codes.specs.Widths.{bits_within, bit_length, width_of, IsWidth}
+use Rattle.mh_codes.proofs.Powers.{two, twice}
+use Rattle.mh_codes.specs.Codes.{Fits}
+use Rattle.mh_codes.specs.Widths.{bits_within, bit_length, is_signed, width_of, IsWidth}
 
-two : 0 < 2
-two = omega arith
-
+-- a number is below the power of its length
 bits_within_hold : (f n : ℕ) → n ≤ f → n < 2 ^ bits_within f n
 bits_within_hold zero n h = omega arith
 bits_within_hold (suc f) zero h = omega arith
@@ -17,12 +17,9 @@ bits_within_hold (suc f) (suc n) h =
     let e : 2 ^ suc (bits_within f (suc n / 2)) ≡ 2 ^ (bits_within f (suc n / 2) + 1) = ap (λ x. 2 ^ x) (omega arith) in
     omega arith
 
+-- the same without a bound
 pub bit_length_holds : (n : ℕ) → n < 2 ^ bit_length n
-unfolding bit_length
 bit_length_holds n = bits_within_hold n n (omega arith)
-
-twice : (v : ℕ) → 2 ^ suc v ≡ 2 ^ v + 2 ^ v
-twice v = let p = pow-add 2 v 1 in let e : 2 ^ suc v ≡ 2 ^ (v + 1) = ap (λ x. 2 ^ x) (omega arith) in omega arith
 
 -- what a width holds needs no more bits
 bits_within_least : (f n v : ℕ) → n < 2 ^ v → bits_within f n ≤ v
@@ -31,8 +28,8 @@ bits_within_least (suc f) zero v h = omega arith
 bits_within_least (suc f) (suc n) zero h = absurd (omega arith)
 bits_within_least (suc f) (suc n) (suc v) h = let t = twice v in let i = bits_within_least f (suc n / 2) v (omega arith) in omega arith
 
+-- the same without a bound
 pub bit_length_least : (n v : ℕ) → n < 2 ^ v → bit_length n ≤ v
-unfolding bit_length
 bit_length_least n v h = bits_within_least n n v h
 
 -- from its length on each width holds a number
@@ -54,6 +51,7 @@ module _ (n m : ℕ) where
   doubles zero o p q = absurd (omega arith)
   doubles (suc v) o p q = let t = twice v in let a = bit_length_least n v (omega arith) in let b = bit_length_least m v (omega arith) in omega arith
 
+-- the width of a range is the least
 pub width_of_is : (lo top : ℤ) → lo ≤ℤ top → IsWidth lo top (width_of lo top)
 width_of_is (pos n) (pos m) l = positive n m (omega (arith, ints))
 width_of_is (pos n) (negsuc m) l = absurd (omega (arith, ints))
@@ -67,3 +65,19 @@ width_of_is (negsuc n) (negsuc m) l =
 -- no range has two widths
 pub same_width : (lo top : ℤ) (w v : ℕ) → IsWidth lo top w → IsWidth lo top v → w ≡ v
 same_width lo top w v a b = let p = a.least v b.some b.low_fits b.top_fits in let q = b.least w a.some a.low_fits a.top_fits in omega arith
+
+-- a range whose ends fit a width is that wide at most
+pub width_at_most : (lo top : ℤ) (v : ℕ) → lo ≤ℤ top → 1 ≤ v → Fits (is_signed lo) v lo → Fits (is_signed lo) v top → width_of lo top ≤ v
+width_at_most lo top v l o p q = (width_of_is lo top l).least v o p q
+
+-- each integer of a range fits the width of the range
+pub fits-width_of : (lo top z : ℤ) → lo ≤ℤ z → z ≤ℤ top → Fits (is_signed lo) (width_of lo top) z
+fits-width_of lo top z a b = let w = width_of_is lo top (omega (arith, ints)) in between lo top z (width_of lo top) a b w.low_fits w.top_fits
+  where
+    between : (lo top z : ℤ) (w : ℕ) → lo ≤ℤ z → z ≤ℤ top → Fits (is_signed lo) w lo → Fits (is_signed lo) w top → Fits (is_signed lo) w z
+    between (pos n) (pos m) (pos k) w a b f g = omega (arith, ints)
+    between (pos n) (negsuc m) (pos k) w a b f g = absurd g
+    between (pos n) top (negsuc k) w a b f g = absurd (omega (arith, ints))
+    between (negsuc n) (pos m) (pos k) w a b f g = omega (arith, ints)
+    between (negsuc n) (negsuc m) (pos k) w a b f g = absurd (omega (arith, ints))
+    between (negsuc n) top (negsuc k) w a b f g = omega (arith, ints)

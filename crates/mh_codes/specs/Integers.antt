@@ -1,6 +1,6 @@
 -- Integers: floor division, and the binary expansion that has no end, in two's complement.
 -- `pos n` is n, and `negsuc n` is -(n + 1).
-use Rattle.std.specs.Prelude.{ℕ, ℤ, pos, negsuc, ◌-◌, ◌/◌, ◌%◌, ◌^◌, bit_and, bit_or, bit_xor}
+use Rattle.std.specs.Prelude.{ℕ, ℤ, pos, negsuc, ◌-◌, ◌-ℤ◌, ◌/◌, ◌%◌, ◌^◌, bit_and, bit_or, bit_xor}
 
 -- The quotient of z by d, rounded down, as `//` of Python and MyHDL 0.11 (`intbv` and `modbv`
 -- compute as `int` does); by 2 ^ k it is the shift right by k (IEEE 1364-2005, 5.1.12, `>>>`).
@@ -38,3 +38,12 @@ integer_xor (pos a) (pos b) = pos (bit_xor a b)
 integer_xor (pos a) (negsuc b) = negsuc (bit_xor a b)
 integer_xor (negsuc a) (pos b) = negsuc (bit_xor a b)
 integer_xor (negsuc a) (negsuc b) = pos (bit_xor a b)
+
+-- z with each of its w low bits inverted, where it has no others: `~` of an `intbv` of MyHDL 0.11
+-- whose least value is 0 or more (IEEE 1364-2005, 5.1.10).
+abbrev pub inverse_of : ℕ → ℤ → ℤ
+inverse_of w z = pos (2 ^ w - 1) -ℤ z
+
+-- The bits of z from j up to and without i, read as a number: `z[i:j]` of MyHDL 0.11.
+abbrev pub slice_of : ℕ → ℕ → ℤ → ℕ
+slice_of i j z = floor_mod (floor_div z (2 ^ j)) (2 ^ (i - j))

@@ -1,3 +1,4 @@
 pub mod Integers
 pub mod Codes
 pub mod Widths
+pub mod Ranges

@@ -1,4 +1,4 @@
-use Rattle.mh_codes.proofs.Bits.{bit_of-and, bit_of-or, bit_of-xor, same_from_bits}
+use Rattle.mh_codes.proofs.Bits.{bit_of-and, bit_of-or, bit_of-xor, bit_of-inverse, same_from_bits}
 use Rattle.mh_codes.proofs.bitwise_laws.Goals as goal
 
 pub returns-clause-and : goal.returns-clause-and
@@ -12,3 +12,6 @@ returns-clause-xor c = bit_of-xor
 
 pub returns-clause-determined : goal.returns-clause-determined
 returns-clause-determined c = same_from_bits
+
+pub returns-clause-inverse : goal.returns-clause-inverse
+returns-clause-inverse c = bit_of-inverse
