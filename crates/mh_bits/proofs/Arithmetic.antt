@@ -4,7 +4,7 @@ use Rattle.std.proofs.Math.Nat.{mod-eq_of_lt}
 use Rattle.mh_codes.specs.Codes.{code, number}
 use Rattle.mh_codes.proofs.Codes.{code-add, code-sub, code-mul, code_cut}
 use Rattle.mh_codes.proofs.Numbers.{code-number}
-use Rattle.mh_codes.proofs.Extensions.{wider}
+use Rattle.mh_codes.proofs.Powers.{wider}
 
 module _ (w m n : ℕ) (most : w ≤ 128) (p : m < 2 ^ w) (q : n < 2 ^ w) (s : Bool) where
   -- the operands' words at a width

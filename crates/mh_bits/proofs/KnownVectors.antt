@@ -1,5 +1,5 @@
 -- What the operators give on vectors without x: numbers and codes.
-use Rattle.std.proofs.Common.{ℕ, zero, suc, ℤ, pos, negsuc, ◌+◌, ◌-◌, ◌*◌, ◌/◌, ◌%◌, ◌^◌, ◌<◌, ◌≤◌, ◌+ℤ◌, ◌-ℤ◌, ◌*ℤ◌, neg_ℤ, ◌≡◌, refl, sym, ap, ◌∙◌, Bool, true, false, cond, ltb, eqb, not, ◌&&◌, int_div, int_rem, int_lt, int_le, bit_and, bit_or, bit_xor, arith}
+use Rattle.std.proofs.Common.{ℕ, zero, suc, ℤ, pos, negsuc, ◌+◌, ◌-◌, ◌*◌, ◌/◌, ◌%◌, ◌^◌, ◌<◌, ◌≤◌, ◌+ℤ◌, ◌-ℤ◌, ◌*ℤ◌, neg_ℤ, ◌≡◌, refl, sym, ap, ◌∙◌, Bool, true, false, cond, ltb, ◌&&◌, int_div, int_rem, int_lt, int_le, bit_and, bit_or, bit_xor, arith}
 use Rattle.std.specs.Int.{bit_at, from_bool}
 use Rattle.std.proofs.lemmas.Bool.{ltb-true}
 use Rattle.std.proofs.lemmas.Bool.Decides.{nat_tests}
@@ -12,14 +12,15 @@ use Rattle.mh_codes.proofs.Codes.{code_same, code_read, code-add, code-sub, code
 use borrow.Author.Differences.{neg_is}
 use Rattle.mh_codes.proofs.Bitwise.{code-and, code-or, code-xor}
 use Rattle.mh_codes.proofs.Numbers.{code-number, number-code, fits_wider}
-use Rattle.mh_codes.proofs.Extensions.{wider, low_extends, high_extends, unsigned_extends}
+use Rattle.mh_codes.proofs.Powers.{wider}
+use Rattle.mh_codes.proofs.Extensions.{low_extends, high_extends, unsigned_extends}
 use Rattle.mh_bits.specs.declared.values.BinOp.TheVariants.{Add, Sub, Mul, Div, Rem, Lt, Le, Gt, Ge}
 use Rattle.mh_bits.specs.declared.values.UnOp.TheVariants.{Neg}
 use Rattle.mh_bits.specs.Vector.{Bit, low, high, unknown, bit_from, Vector, IsVector, is_known, vector_from, known, gathered, bit, word}
 use Rattle.mh_bits.proofs.Arithmetic.{sum_word, difference_word, product_word}
-use Rattle.mh_bits.specs.Operators.{by_number, where_known, binary_of, unary_of, coded, number_of, divided, tested, bitwise, and_bit, or_bit, xor_bit, inverted, shifted_left, shifted_right, fill, extended, selected, joined, differs, equality, truth_of}
+use Rattle.mh_bits.specs.Operators.{by_number, where_known, binary_of, unary_of, coded, number_of, divided, tested, bitwise, and_bit, or_bit, xor_bit, inverted, shifted_left, shifted_right, fill, extended, selected, joined, differs, equality}
 use Rattle.mh_bits.proofs.WordBits.{word_is, word-same, bit_at-word}
-use Rattle.mh_bits.proofs.SomeBelow.{equality-same, equality-apart, truth_of-val}
+use Rattle.mh_bits.proofs.SomeBelow.{equality-same, equality-apart}
 use Rattle.mh_bits.proofs.Gathered.{bit-gathered, gathered-same}
 use Rattle.mh_bits.proofs.MovedWords.{top_bit, moved_left, extended_low, extended_high, part_of, joined_sum}
 use Rattle.mh_bits.proofs.Chosen.{left_words, extended_words, selected_words, joined_words}
@@ -126,7 +127,7 @@ module _ (w : ℕ) (some : 1 ≤ w) (most : w ≤ 128) where
       ∙ ap (λ m. vector_from w (bit_and (2 ^ w - 1) (2 ^ 128 - 1 - m)) 0) (or_comm n 0)
       ∙ ap (λ v. vector_from w v 0) (and_comm (2 ^ w - 1) (2 ^ 128 - 1 - n) ∙ and_mask (2 ^ 128 - 1 - n) w ∙ ap (λ m. m % 2 ^ w) cut ∙ code_cut 128 w (negsuc n) most ∙ ap (λ m. 2 ^ w - 1 - m) same)
 
--- `==` of vectors without x, and their truth
+-- `==` of vectors without x
 digits_same : (i j : ℕ) → i < 2 → j < 2 → differs (bit_from 0 i) (bit_from 0 j) ≡ false → i ≡ j
 digits_same zero zero p q e = refl
 digits_same zero (suc j) p q e = absurd (cc)
@@ -168,9 +169,6 @@ module _ (w : ℕ) (some : 1 ≤ w) (most : w ≤ 128) (m n : ℕ) (p : m < 2 ^ 
           let digit = sym (bit_at-word (λ i. from_bool (differs (bit (known w m) i) (bit (known w n) i))) w k (λ i j. from_bool-lt (differs (bit (known w m) i) (bit (known w n) i))) l) ∙ ap (λ x. bit_at x k) (sym apart-word ∙ none) ∙ zero_at in
           digits_same (bit_at m k) (bit_at n k) (bit_at-lt m k) (bit_at-lt n k)
           (ap (λ u. differs (bit_from u (bit_at m k)) (bit_from u (bit_at n k))) (sym zero_at) ∙ digit_zero (differs (bit (known w m) k) (bit (known w n) k)) digit)
-
-pub truth_of-known : (w n : ℕ) → 1 ≤ w → w ≤ 128 → n < 2 ^ w → truth_of (known w n) ≡ not (eqb n 0)
-truth_of-known w n some most h = truth_of-val (known w n) (IsVector-known w n some most h)
 
 -- ---- by number
 module _ (s : Bool) (w : ℕ) (x y : ℤ) where

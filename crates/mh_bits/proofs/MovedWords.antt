@@ -5,9 +5,9 @@ use Rattle.std.proofs.lemmas.Bool.{cases_lt, cond-true, cond-false}
 use Rattle.std.proofs.lemmas.Bool.Decides.{nat_tests}
 use Rattle.std.proofs.lemmas.Nat.{pow_pos, pow-add, mod_below, shl_whole, or_shifted, mul-add-lt}
 use Rattle.std.proofs.lemmas.Nat.Bits.{bit_at-zero, bit_at_above, bit_at_cat_low, bit_at_cat_high, bit_at_ones}
-use Rattle.mh_codes.proofs.Extensions.{wider}
+use Rattle.mh_codes.proofs.Powers.{twice, wider}
 use Rattle.mh_bits.specs.Vector.{word}
-use Rattle.mh_bits.proofs.WordBits.{twice, word_is, word-same, bit_at-mod, bit_at-shr, bit_at-shl_low, bit_at-shl_high}
+use Rattle.mh_bits.proofs.WordBits.{word_is, word-same, bit_at-mod, bit_at-shr, bit_at-shl_low, bit_at-shl_high}
 
 -- a choice by the order of two numbers
 pub chosen : {A : Type 0} (k n : ℕ) (x y z : A) → (k < n → z ≡ x) → (n ≤ k → z ≡ y) → z ≡ cond (ltb k n) x y
@@ -76,12 +76,6 @@ moved_right n amount w d upto =
     (λ k l. sym (chosen k (w - amount) (bit_at (n / 2 ^ amount) k) d (cond (ltb (k + amount) w) (bit_at n (k + amount)) d)
     (λ below. cond-true (ltb (k + amount) w) (bit_at n (k + amount)) d (grind (arith, nat_tests)) ∙ sym (bit_at-shr n amount k))
     (λ above. cond-false (ltb (k + amount) w) (bit_at n (k + amount)) d (grind (arith, nat_tests)))))
-
--- where it leaves none, all bits are the fill
-pub moved_far : (n amount w d : ℕ) → w ≤ amount → word (λ k. cond (ltb k 0) (bit_at 0 k) d) w ≡ word (λ k. cond (ltb (k + amount) w) (bit_at n (k + amount)) d) w
-moved_far n amount w d far =
-    word-same (λ k. cond (ltb k 0) (bit_at 0 k) d) (λ k. cond (ltb (k + amount) w) (bit_at n (k + amount)) d) w
-    (λ k l. cond-false (ltb k 0) (bit_at 0 k) d (grind (arith, nat_tests)) ∙ sym (cond-false (ltb (k + amount) w) (bit_at n (k + amount)) d (grind (arith, nat_tests))))
 
 -- a part of a word
 pub part_of : (n lo w : ℕ) → n / 2 ^ lo % 2 ^ w ≡ word (λ k. bit_at n (lo + k)) w

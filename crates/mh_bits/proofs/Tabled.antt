@@ -3,7 +3,7 @@ use Rattle.std.proofs.Common.{ℕ, ◌+◌, ◌-◌, ◌%◌, ◌^◌, ◌<◌, 
 use Rattle.std.specs.Int.{bit_at, w128, from_bool}
 use Rattle.std.proofs.lemmas.Nat.{and_le_l, or_lt, xor_lt, pow_pos}
 use Rattle.std.proofs.lemmas.Nat.Bits.{bit_at_and, bit_at_or, bit_at_xor, bit_at_not, bit_at_ones}
-use Rattle.mh_codes.proofs.Extensions.{wider}
+use Rattle.mh_codes.proofs.Powers.{wider}
 use Rattle.mh_bits.specs.Vector.{Bit, low, high, unknown, high_digit, unknown_digit, Vector, vector_from, IsVector, bit, word, gathered}
 use Rattle.mh_bits.specs.Operators.{and_bit, or_bit, xor_bit, not_bit, differs, bitwise, inverted, single}
 use Rattle.mh_bits.proofs.WordBits.{word_is}

@@ -1,18 +1,16 @@
 -- The bits of words.
 use Rattle.std.proofs.Common.{ℕ, zero, suc, ◌+◌, ◌-◌, ◌*◌, ◌/◌, ◌%◌, ◌^◌, ◌<◌, ◌≤◌, ◌≡◌, refl, sym, ap, ◌∙◌, arith, inl, inr}
 use Rattle.std.specs.Int.{bit_at}
-use Rattle.std.proofs.lemmas.Nat.{pow_pos, pow-add, mul-le, shr-shr, shr_split}
+use Rattle.std.proofs.lemmas.Nat.{pow_pos, mul-le, shr-shr, shr_split}
 use Rattle.std.proofs.lemmas.Nat.Bits.{bit_at-lt, bit_at-zero, bit_at_lowest, bit_at_cat_low, bit_at_cat_high, same_from_bits_below}
 use Rattle.std.proofs.Math.Nat.{mod-eq_of_lt}
 use Rattle.std.proofs.lemmas.Bool.{cases_lt}
+use Rattle.mh_codes.proofs.Powers.{twice}
 use Rattle.mh_bits.specs.Vector.{word}
 
 -- a digit is its own lowest bit
 lowest : (n : ℕ) → n < 2 → bit_at n 0 ≡ n
 lowest n h = bit_at_lowest n ∙ mod-eq_of_lt h
-
-pub twice : (w : ℕ) → 2 ^ suc w ≡ 2 ^ w + 2 ^ w
-twice w = let e : suc w ≡ w + 1 = omega arith in let p = pow-add 2 w 1 in ap (λ k. 2 ^ k) e ∙ omega arith
 
 -- words of digits
 pub word_below : (f : ℕ → ℕ) (w : ℕ) → ((k : ℕ) → k < w → f k < 2) → word f w < 2 ^ w

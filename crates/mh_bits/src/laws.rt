@@ -14,6 +14,8 @@ pub fn bit_laws()
     ensures same { (u v : Vector) → IsVector u → IsVector v → u.width ≡ v.width →
         ((k : ℕ) → k < u.width → bit u k ≡ bit v k) → u ≡ v }
     ensures same_bits { (a b : Bits) → vector_of a ≡ vector_of b → a ≡ b }
+    ensures gathered { (v : Vector) (f : ℕ → Bit) → IsVector v →
+        ((k : ℕ) → k < v.width → bit v k ≡ f k) → v ≡ gathered v.width f }
     ensures chosen { (w : ℕ) (f : ℕ → Bit) (k : ℕ) → k < w → bit (gathered w f) k ≡ f k }
     ensures valid { (w : ℕ) (f : ℕ → Bit) → 1 ≤ w → w ≤ 128 → IsVector (gathered w f) }
 {}
@@ -103,6 +105,10 @@ pub fn known_laws()
         binary_of BinOp.Lt (coded w x) (coded w y) s ≡ tested (int_lt x y) }
     ensures less_or_equal { (s : Bool) (w : ℕ) (x y : ℤ) → Fits s w x → Fits s w y →
         binary_of BinOp.Le (coded w x) (coded w y) s ≡ tested (int_le x y) }
+    ensures greater { (s : Bool) (w : ℕ) (x y : ℤ) → Fits s w x → Fits s w y →
+        binary_of BinOp.Gt (coded w x) (coded w y) s ≡ tested (int_lt y x) }
+    ensures greater_or_equal { (s : Bool) (w : ℕ) (x y : ℤ) → Fits s w x → Fits s w y →
+        binary_of BinOp.Ge (coded w x) (coded w y) s ≡ tested (int_le y x) }
     ensures and { (w : ℕ) → 1 ≤ w → w ≤ 128 → (x y : ℤ) →
         bitwise and_bit (coded w x) (coded w y) ≡ coded w (integer_and x y) }
     ensures or { (w : ℕ) → 1 ≤ w → w ≤ 128 → (x y : ℤ) →

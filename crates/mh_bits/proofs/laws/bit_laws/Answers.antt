@@ -1,4 +1,4 @@
-use Rattle.mh_bits.proofs.Gathered.{same_from_bits, bit-gathered, IsVector-gathered}
+use Rattle.mh_bits.proofs.Gathered.{same_from_bits, gathered_from_bits, bit-gathered, IsVector-gathered}
 use Rattle.mh_bits.proofs.Validity.{bits_same}
 use Rattle.mh_bits.proofs.laws.bit_laws.Goals as goal
 
@@ -13,3 +13,6 @@ returns-clause-chosen c = bit-gathered
 
 pub returns-clause-valid : goal.returns-clause-valid
 returns-clause-valid c = IsVector-gathered
+
+pub returns-clause-gathered : goal.returns-clause-gathered
+returns-clause-gathered c = gathered_from_bits

@@ -1,4 +1,4 @@
-use Rattle.mh_bits.proofs.KnownVectors.{quotient-coded, remainder-coded, less-coded, less_or_equal-coded, and-coded, or-coded, xor-coded, inverted-known, equality-known_same, equality-known_apart, shifted_left-coded, shifted_right-coded, extended-coded, selected-coded, joined-known}
+use Rattle.mh_bits.proofs.KnownVectors.{quotient-coded, remainder-coded, less-coded, less_or_equal-coded, greater-coded, greater_or_equal-coded, and-coded, or-coded, xor-coded, inverted-known, equality-known_same, equality-known_apart, shifted_left-coded, shifted_right-coded, extended-coded, selected-coded, joined-known}
 use Rattle.mh_bits.proofs.laws.known_laws.Goals as goal
 
 pub returns-clause-quotient : goal.returns-clause-quotient
@@ -45,3 +45,9 @@ returns-clause-part c = selected-coded
 
 pub returns-clause-concatenation : goal.returns-clause-concatenation
 returns-clause-concatenation c = joined-known
+
+pub returns-clause-greater : goal.returns-clause-greater
+returns-clause-greater c = greater-coded
+
+pub returns-clause-greater_or_equal : goal.returns-clause-greater_or_equal
+returns-clause-greater_or_equal c = greater_or_equal-coded

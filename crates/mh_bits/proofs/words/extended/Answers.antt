@@ -1,6 +1,6 @@
 use Rattle.std.proofs.Common.{◌≡◌, ◌∙◌, ap, sym, ◌+◌, ◌-◌, ◌^◌, ltb, cond, arith}
 use Rattle.std.specs.Int.{bit_at, from_bool}
-use Rattle.mh_codes.proofs.Extensions.{wider}
+use Rattle.mh_codes.proofs.Powers.{wider}
 use Rattle.mh_bits.specs.Vector.{word}
 use Rattle.mh_bits.proofs.MovedWords.{extended_low, extended_high}
 use Rattle.mh_bits.proofs.words.extended.Goals as goal
