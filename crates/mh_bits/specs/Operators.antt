@@ -1,4 +1,4 @@
--- The operators of IEEE 1364-2005 on vectors: by the table of one bit, by number, and by moving bits.
+-- The operators of IEEE 1364-2005 on vectors: by the table of one bit, by number, by moving bits.
 use Rattle.std.specs.Prelude.{ℕ, zero, suc, ℤ, pos, negsuc, ◌+◌, ◌-◌, ◌+ℤ◌, ◌-ℤ◌, ◌*ℤ◌, neg_ℤ, int_div, int_rem, int_lt, int_le, Bool, true, false, ◌&&◌, nat_lt, ◌≡◌, if◌then◌else◌, Option, Some, None}
 use Rattle.mh_codes.specs.Codes.{code, number}
 use Rattle.mh_bits.specs.Vector.{Bit, low, high, unknown, Vector, bit, gathered, some_below, known, all_unknown, is_known}
@@ -65,8 +65,8 @@ differs unknown y = false
 differs low unknown = false
 differs high unknown = false
 
--- `==`, whose negation is `!=` (5.1.8): 0 where two known bits differ, else x where a bit is x, since then the relation is
--- ambiguous, else 1.
+-- `==`, whose negation is `!=` (5.1.8): 0 where two known bits differ; else x where a bit is x, since
+-- then the relation is ambiguous; else 1.
 abbrev pub equality : Vector → Vector → Bit
 equality a b =
     if some_below (λ k. differs (bit a k) (bit b k)) a.width
@@ -103,12 +103,13 @@ coded w z = known w (code w z)
 abbrev pub where_known : Bool → Vector → Vector
 where_known k v = if k then v else all_unknown v.width
 
--- An operator on the two numbers, read as signed or not: x in every bit where an operand has an x bit.
+-- An operator on the two numbers, read as signed or not: x in every bit where an operand has an x
+-- bit.
 abbrev pub by_number : (ℤ → ℤ → Vector) → Bool → Vector → Vector → Vector
 by_number f s a b = where_known (is_known a && is_known b) (f (number_of s a) (number_of s b))
 
--- `/` and `%` drop the fraction towards 0, and the remainder has the dividend's sign; a divisor of 0
--- gives x in every bit.
+-- `/` drops the fraction towards 0, and the remainder has the dividend's sign; a divisor of 0 gives x
+-- in every bit.
 abbrev pub divided : (ℤ → ℤ → ℤ) → ℕ → ℤ → ℤ → Vector
 divided f w x (pos zero) = all_unknown w
 divided f w x (pos (suc n)) = coded w (f x (pos (suc n)))
@@ -120,7 +121,8 @@ divided f w x (negsuc n) = coded w (f x (negsuc n))
 abbrev pub by_amount : (ℕ → Vector) → Vector → Vector
 by_amount f b = where_known (is_known b) (f b.val)
 
--- The bits of a move with their x. What fills the vacated places: the top bit in a signed `>>>`, x too, and else 0.
+-- The bits move with their x. What fills the vacated places: the top bit in a signed `>>>`, x too,
+-- and else 0.
 abbrev pub fill : Bool → Vector → Bit
 fill s a = if s then bit a (a.width - 1) else low
 
@@ -132,7 +134,7 @@ shifted_right f a n = gathered a.width (λ k. if nat_lt (k + n) a.width then bit
 
 -- ---- all of them
 
--- What `binary` gives: `s` says how `/ % >>>` and the orderings read their operands (5.5). It makes no
+-- What `binary` gives: s says how `/ % >>>` and the orderings read their operands (5.5). It makes no
 -- difference to `+ - *`, which are modulo 2 ^ w.
 abbrev pub binary_of : BinOp → Vector → Vector → Bool → Vector
 binary_of Add a b s = by_number (λ x y. coded a.width (x +ℤ y)) s a b
@@ -181,7 +183,7 @@ unary_of Not a = inverted a
 
 -- ---- widths (5.4, 5.5.4), part-selects (5.2.1) and concatenations (5.1.14)
 
--- What `extend` gives: w bits, those above by the top bit (x too) where the vector is signed, else 0.
+-- What `extend` gives: w bits, those above by the top bit, x too, where it is signed, and else 0.
 abbrev pub extended : Vector → ℕ → Bool → Vector
 extended a w s = gathered w (λ k. if nat_lt k a.width then bit a k else fill s a)
 

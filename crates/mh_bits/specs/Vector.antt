@@ -2,13 +2,14 @@
 use Rattle.std.specs.Prelude.{ℕ, zero, suc, ◌+◌, ◌-◌, ◌*◌, ◌^◌, ◌<◌, ◌≤◌, ◌≡◌, ◌==◌, Bool, false, ◌||◌, bit_and}
 use Rattle.std.specs.Int.{bit_at}
 
--- A bit: 0, 1 or x (IEEE 1364-2005, 4.1). There is no z: every operator reads z as x.
+-- A bit: 0, 1 or x (IEEE 1364-2005, 4.1). There is no z, which no text that this project reads or
+-- writes can make.
 pub data Bit : Type 0 where
   low : Bit
   high : Bit
   unknown : Bit
 
--- 1 at the bit 1, and else 0; and 1 at the bit x, and else 0: the two words of a vector.
+-- The digits of a bit in the two words of a vector: 1 at the bit 1, and 1 at the bit x.
 abbrev pub high_digit : Bit → ℕ
 high_digit low = 0
 high_digit high = 1
@@ -19,13 +20,14 @@ unknown_digit low = 0
 unknown_digit high = 0
 unknown_digit unknown = 1
 
--- The bit that two words hold at one place, from its digit in the word of x bits and in that of 1 bits.
+-- The bit whose digits in the word of x bits and in the word of 1 bits are these.
 abbrev pub bit_from : ℕ → ℕ → Bit
 bit_from zero zero = low
 bit_from zero (suc n) = high
 bit_from (suc u) n = unknown
 
--- A vector of `width` bits (IEEE 1364-2005, 4.3.1), as two words: `val` has the 1 bits, `unk` the x bits.
+-- A vector of `width` bits (IEEE 1364-2005, 4.3.1) as two words: `val` has the 1 bits, and `unk` the
+-- x bits.
 pub record Vector : Type 0 where
   pub width : ℕ
   pub val : ℕ

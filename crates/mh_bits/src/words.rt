@@ -25,7 +25,7 @@ pub fn low_bits(n: u128, width: u8) -> u128
     n & mask(width)
 }
 
-/// Whether a word of `width` bits, read as signed or not, stands for a negative number: its top bit.
+/// Whether a word of `width` bits stands for a negative number: its top bit, where it is `signed`.
 pub fn is_below_zero(n: u128, width: u8, signed: bool) -> bool
     requires some { 1 ≤ width }
     requires most { width ≤ 128 }
@@ -106,9 +106,9 @@ pub fn quotient(m: u128, n: u128, width: u8, signed: bool) -> u128
     requires divisor { 0 < n }
     ensures { result ≡ code width (int_div (number signed width m) (number signed width n)) }
 {
-    let parts = magnitude(m, width, signed) / magnitude(n, width, signed);
+    let whole = magnitude(m, width, signed) / magnitude(n, width, signed);
     let negative = is_below_zero(m, width, signed) != is_below_zero(n, width, signed);
-    with_sign(parts, negative, width)
+    with_sign(whole, negative, width)
 }
 
 /// The word of the remainder that such a quotient leaves.
