@@ -4,7 +4,8 @@ use Rattle.std.proofs.lemmas.Int.{ints}
 use Rattle.std.proofs.lemmas.Nat.{pow-add}
 use Rattle.std.proofs.Math.Nat.{pow-le-pow_right}
 use Rattle.mh_codes.proofs.Powers.{two, twice}
-use Rattle.mh_codes.specs.Codes.{Fits}
+use Rattle.mh_codes.specs.Codes.{Fits, code, number}
+use Rattle.mh_codes.proofs.Numbers.{number-code}
 use Rattle.mh_codes.specs.Widths.{bits_within, bit_length, is_signed, width_of, IsWidth}
 
 -- a number is below the power of its length
@@ -81,3 +82,7 @@ fits-width_of lo top z a b = let w = width_of_is lo top (omega (arith, ints)) in
     between (negsuc n) (pos m) (pos k) w a b f g = omega (arith, ints)
     between (negsuc n) (negsuc m) (pos k) w a b f g = absurd (omega (arith, ints))
     between (negsuc n) top (negsuc k) w a b f g = omega (arith, ints)
+
+-- and is read back from its code at that width
+pub number-width_of : (lo top z : ℤ) → lo ≤ℤ z → z ≤ℤ top → number (is_signed lo) (width_of lo top) (code (width_of lo top) z) ≡ z
+number-width_of lo top z a b = number-code (is_signed lo) (width_of lo top) z (fits-width_of lo top z a b)

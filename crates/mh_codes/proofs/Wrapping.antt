@@ -1,8 +1,10 @@
 -- Wrapping into a range gives the one integer of the range that differs by a multiple of its size.
-use Rattle.std.proofs.Common.{ℕ, ℤ, pos, negsuc, ◌<◌, ◌+ℤ◌, ◌-ℤ◌, ◌*ℤ◌, ◌≤ℤ◌, ◌≡◌, refl, sym, ap, ◌∙◌, unsigned_abs, arith}
+use Rattle.std.proofs.Common.{ℕ, ◌^◌, ℤ, pos, negsuc, ◌<◌, ◌+ℤ◌, ◌-ℤ◌, ◌*ℤ◌, ◌≤ℤ◌, ◌≡◌, refl, sym, ap, ◌∙◌, unsigned_abs, arith}
 use Rattle.std.proofs.lemmas.Int.{ints}
-use borrow.Author.Differences.{product_is}
+use borrow.Author.Differences.{up, down, product_is}
 use Rattle.mh_codes.specs.Integers.{floor_div, floor_mod}
+use Rattle.mh_codes.specs.Codes.{code}
+use Rattle.mh_codes.proofs.Codes.{code_same}
 use Rattle.mh_codes.specs.Ranges.{size_of, wrap_of}
 use Rattle.mh_codes.proofs.Division.{floor_mod_below, floor_division, floor_division_only}
 
@@ -66,3 +68,13 @@ module _ (lo top : ℤ) (l : lo ≤ℤ top) where
   -- so wrapping again changes nothing
   pub wrap_of-wrap_of : (v : ℤ) → wrap_of lo top (wrap_of lo top v) ≡ wrap_of lo top v
   wrap_of-wrap_of v = wrap_of_inside (wrap_of lo top v) (wrap_of_low v) (wrap_of_high v)
+
+-- integers that differ by a multiple of 2 ^ w have one code of w bits
+pub code_differs : (w : ℕ) (v x k : ℤ) → v ≡ x +ℤ (k *ℤ pos (2 ^ w)) → code w v ≡ code w x
+code_differs w v x k e = code_same w v x (down k) (up k) (omega (arith, ints, product_is, e))
+
+-- so wrapping into a range of 2 ^ w integers keeps the w low bits
+pub code-wrap_of : (w : ℕ) (lo top v : ℤ) → lo ≤ℤ top → size_of lo top ≡ 2 ^ w → code w (wrap_of lo top v) ≡ code w v
+code-wrap_of w lo top v l e =
+    let q = floor_div (v -ℤ lo) (size_of lo top) in
+    sym (code_differs w v (wrap_of lo top v) q (wrap_of_differs lo top l v ∙ ap (λ n. wrap_of lo top v +ℤ (q *ℤ pos n)) e))

@@ -22,9 +22,9 @@ abbrev pub magnitude_of : ℤ → ℕ
 magnitude_of (pos n) = n
 magnitude_of (negsuc n) = n
 
--- The width of lo .. top: the bits of the magnitudes, and one more for the sign of a signed range
--- (MyHDL 0.11, `intbv`: the bits that the range needs). That it is the least is what `width_laws`
--- proves.
+-- The width of lo .. top, for lo ≤ top: the bits of the magnitudes, and one more for the sign of a
+-- signed range (MyHDL 0.11, `intbv`: the bits that the range needs). That it is the least is what
+-- `width_laws` proves.
 abbrev pub width_of : ℤ → ℤ → ℕ
 width_of (pos n) top = max 1 (bit_length (magnitude_of top))
 width_of (negsuc n) top = suc (max (bit_length n) (bit_length (magnitude_of top)))

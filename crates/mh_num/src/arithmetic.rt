@@ -42,7 +42,8 @@ fn amount(b: i128) -> Option<u8>
     }
 }
 
-/// `a << b`, or `None` where `b` is outside 0 to 127 or the result leaves `i128`.
+/// `a << b`, which is `a * 2 ** b`, or `None` where `b` is outside 0 to 127 or the result leaves
+/// `i128`.
 pub fn shl(a: i128, b: i128) -> Option<i128>
     ensures { result ≡ left_shift_of a b }
 {
@@ -53,7 +54,7 @@ pub fn shl(a: i128, b: i128) -> Option<i128>
     mul(part, power(amount - first))
 }
 
-/// `a >> b`, which rounds down, or `None` where `b` is outside 0 to 127.
+/// `a >> b`, which is `a // 2 ** b` and so rounds down, or `None` where `b` is outside 0 to 127.
 pub fn shr(a: i128, b: i128) -> Option<i128>
     ensures { result ≡ right_shift_of a b }
 {
@@ -61,14 +62,15 @@ pub fn shr(a: i128, b: i128) -> Option<i128>
     Some(a >> amount)
 }
 
-/// `a // b`, which rounds down, or `None` where `b` is not positive.
+/// `a // b` of MyHDL 0.11, which rounds down, or `None` where `b` is not positive (the project's own
+/// rule: designs divide by positive numbers only).
 pub fn quot(a: i128, b: i128) -> Option<i128>
     ensures { result ≡ quotient_of a b }
 {
     if b > 0 { Some(a.div_euclid(b)) } else { None }
 }
 
-/// `a % b`, which lies in 0 to `b - 1`, or `None` where `b` is not positive.
+/// `a % b` of MyHDL 0.11, which lies in 0 to `b - 1`, or `None` where `b` is not positive.
 pub fn rem(a: i128, b: i128) -> Option<i128>
     ensures { result ≡ remainder_of a b }
 {

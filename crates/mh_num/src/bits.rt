@@ -13,28 +13,29 @@ fn mask(width: u8) -> i128
     i128::MAX >> (127 - width)
 }
 
-/// `a & b`.
+/// `a & b` of MyHDL 0.11: bit by bit, where a negative number has 1 in each of its high bits.
 pub fn and(a: i128, b: i128) -> i128
     ensures { result ≡ integer_and a b }
 {
     a & b
 }
 
-/// `a | b`.
+/// `a | b` of MyHDL 0.11: bit by bit, where a negative number has 1 in each of its high bits.
 pub fn or(a: i128, b: i128) -> i128
     ensures { result ≡ integer_or a b }
 {
     a | b
 }
 
-/// `a ^ b`.
+/// `a ^ b` of MyHDL 0.11: bit by bit, where a negative number has 1 in each of its high bits.
 pub fn xor(a: i128, b: i128) -> i128
     ensures { result ≡ integer_xor a b }
 {
     a ^ b
 }
 
-/// `a` with each of its `w` bits inverted.
+/// `~a` of MyHDL 0.11, for an `intbv` of `w` bits whose least value is 0 or more: `a` with each of
+/// its `w` bits inverted.
 pub fn not(a: i128, w: u8) -> i128
     requires width { w ≤ 127 }
     requires fits { Fits false w a }
@@ -44,7 +45,7 @@ pub fn not(a: i128, w: u8) -> i128
     mask(w) - a
 }
 
-/// The bits of `a` from `j` up to and without `i`, as a number of 0 or more.
+/// `a[i:j]` of MyHDL 0.11: the bits of `a` from `j` up to and without `i`, as a number of 0 or more.
 pub fn slice(a: i128, i: u8, j: u8) -> i128
     requires some { j < i }
     requires places { i ≤ 127 }
@@ -53,7 +54,7 @@ pub fn slice(a: i128, i: u8, j: u8) -> i128
     (a >> j) & mask(i - j)
 }
 
-/// Bit `i` of `a`.
+/// `a[i]` of MyHDL 0.11: whether bit `i` of `a` is 1, bit 0 being the lowest.
 pub fn bit(a: i128, i: u8) -> bool
     requires { i ≤ 126 }
     ensures { IsTrue result ↔ (bit_of i a ≡ 1) }
@@ -61,7 +62,8 @@ pub fn bit(a: i128, i: u8) -> bool
     (a >> i) & 1 == 1
 }
 
-/// The `w` low bits of `a`, read as a signed number in two's complement.
+/// `a.signed()` of MyHDL 0.11, for an `intbv` of `w` bits whose least value is 0 or more: the `w` low
+/// bits of `a`, read as a signed number in two's complement.
 pub fn signed_of(a: i128, w: u8) -> i128
     requires some { 1 ≤ w }
     requires places { w ≤ 127 }

@@ -70,7 +70,7 @@ pub struct OutOfBounds {
 }
 
 /// The number of bits of `v`, or of `-1 - v` where `v` is negative, without leading zeros.
-fn length(v: i128) -> u8
+fn magnitude_bits(v: i128) -> u8
     ensures { result ≡ bit_length (magnitude_of v) }
 {
     let magnitude = if v < 0 { !v } else { v };
@@ -85,9 +85,9 @@ pub fn width(b: &Bounds) -> u8
     ensures at_most { result ≤ 127 }
 {
     if b.lo >= 0 {
-        length(b.top).max(1)
+        magnitude_bits(b.top).max(1)
     } else {
-        1 + length(b.lo).max(length(b.top))
+        1 + magnitude_bits(b.lo).max(magnitude_bits(b.top))
     }
 }
 

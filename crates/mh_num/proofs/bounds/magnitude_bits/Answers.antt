@@ -1,6 +1,6 @@
 use Rattle.mh_num.proofs.Ends.{length_positive, length_negative}
-use Rattle.mh_num.proofs.bounds.length.Goals as goal
-use Rattle.mh_num.proofs.bounds.length.Goals.{then-v-lt0, else-v-lt0}
+use Rattle.mh_num.proofs.bounds.magnitude_bits.Goals as goal
+use Rattle.mh_num.proofs.bounds.magnitude_bits.Goals.{then-v-lt0, else-v-lt0}
 
 pub returns : goal.returns
 returns c =
