@@ -1,0 +1,10 @@
+pub mod WordBits
+pub mod Gathered
+pub mod Arithmetic
+pub mod MovedWords
+pub mod Tabled
+pub mod Chosen
+pub mod SomeBelow
+pub mod Validity
+pub mod Selections
+pub mod KnownVectors
