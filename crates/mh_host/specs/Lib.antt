@@ -1,3 +1,4 @@
 pub mod Entries
 pub mod MemShelf
+pub mod OtherShelves
 pub mod Shelf

@@ -1,5 +1,4 @@
 -- What a shelf in memory tells, and its counts.
-use Rattle.std.specs.Prelude.{Option, Some}
 use Rattle.mh_host.specs.Shelf.{Seen, Counts}
 use Rattle.mh_host.specs.Entries.{held_under}
 use Rattle.mh_host.specs.declared.mem.MemShelf.{MemShelf}

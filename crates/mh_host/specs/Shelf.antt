@@ -1,5 +1,5 @@
 -- What can be told of a shelf, and what each of its calls may change. These rules are this project's own.
-use Rattle.std.specs.Prelude.{ℕ, ◌+◌, ◌-◌, ◌^◌, ◌≤◌, ◌≡◌, ◌≢◌, ◌⊎◌, Bool, true, false, min, List, [], ◌++◌, length, Option, None, Some, IfSome, Result, Ok, Err}
+use Rattle.std.specs.Prelude.{ℕ, ◌+◌, ◌-◌, ◌^◌, ◌≤◌, ◌≡◌, ◌≢◌, ◌⊎◌, Bool, true, false, min, List, ◌++◌, length, Option, None, Some, IfSome, Result, Ok, Err}
 use Rattle.mh_host.specs.declared.shelf.Fetched.{Fetched}
 use Rattle.mh_host.specs.declared.shelf.Fetched.TheVariants.{Whole, TooLong}
 use Rattle.mh_host.specs.declared.shelf.ShelfError.{ShelfError}

@@ -107,10 +107,11 @@ impl<R: Files, O: Write, E: Write> FileShelf<R, O, E> {
 
 impl<R: Files, O: Write, E: Write> Shelf for FileShelf<R, O, E> {
     ghost use Rattle.std.specs.Prelude.{None};
+    ghost use Rattle.mh_host.specs.OtherShelves.{file_counts};
 
     ghost seen = { λ _. None };
 
-    ghost counts = { λ shelf. record { fetch = shelf.fetch_faults; store = shelf.store_faults; print = shelf.print_faults; complain = shelf.complain_faults } };
+    ghost counts = { file_counts };
 
     ghost may_fetch = { λ _. Unit {0} };
 

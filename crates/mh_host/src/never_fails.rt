@@ -1,4 +1,5 @@
 ghost use Rattle.std.specs.Prelude.{◌≡◌, IfOk};
+ghost use Rattle.mh_host.specs.OtherShelves.{bytes_given};
 
 use crate::portion::copy_portion;
 use crate::shelf::{Failed, Fetched, Shelf, ShelfError};
@@ -16,7 +17,7 @@ pub struct NeverFails {
 impl NeverFails {
     /// A shelf each of whose names gives these bytes.
     pub fn new(alloc: Global, bytes: &[u8]) -> Result<NeverFails, Memory>
-        ensures { IfOk result (λ shelf. shelf.bytes ≡ bytes.now) }
+        ensures { IfOk result (λ shelf. bytes_given shelf ≡ bytes.now) }
     {
         Ok(NeverFails {
             bytes: Text::new(alloc, bytes)?,
