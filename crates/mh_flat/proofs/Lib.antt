@@ -1,0 +1,9 @@
+pub mod Mirror
+pub mod Went
+pub mod Turns
+pub mod Bodies
+pub mod Measures
+pub mod Puts
+pub mod Begin
+pub mod Once
+pub mod Always
