@@ -24,5 +24,6 @@ starts c st eg el ec =
           does = subst (λ g. Does c.nodes.items c.depth st.counters.items (todo 0 b []) g (end c.nodes.items c.depth) (end c.nodes.items c.depth) 0) (first_at_end b (length c.nodes.items) code.long ∙ sym eg) (does_block c.nodes.items c.depth st.counters.items b 0 [] (end c.nodes.items c.depth) (end c.nodes.items c.depth) (end c.nodes.items c.depth) 0 code.has (refl, refl, refl));
         };
       };
+      room = λ b code. el ∙ code.deep;
       count = ec;
     }

@@ -212,5 +212,6 @@ is_code {L} {E} {P} {V} {S} {F} b c n0 n e0 e en lt ed =
     record {
       small = omega (arith, len);
       long = len;
+      deep = ed;
       has = subst (λ g. HasBlock c.nodes.items c.depth b 0 g g g 0) same (flats_has L E P V S F b c.nodes.items c.depth (fresh n) all (omega (arith, ed)));
     }

@@ -57,9 +57,11 @@ abbrev mutual
 pub record IsCodeOf {L E P V S F : Type 0} (b : Block E P) (c : Code L E P V S F) : Type 0 where
   pub small : length c.nodes.items < 2 ^ 32
   pub long : length c.nodes.items ≡ sizes b
+  pub deep : c.depth ≡ nestings b
   pub has : HasBlock c.nodes.items c.depth b 0 (end c.nodes.items c.depth) (end c.nodes.items c.depth) (end c.nodes.items c.depth) 0
 
 -- The state stands for the whole body, of which nothing has been counted.
 pub record Starts {L E P V S F : Type 0} (c : Code L E P V S F) (st : State) : Type 0 where
   pub left : (b : Block E P) → IsCodeOf b c → StandsFor c (todo 0 b []) st
+  pub room : (b : Block E P) → IsCodeOf b c → length st.counters.items ≡ nestings b
   pub count : st.count ≡ 0
