@@ -1,9 +1,9 @@
-pub mod Mirror
-pub mod Went
+pub mod Simulates
+pub mod Advance
 pub mod Turns
 pub mod Bodies
 pub mod Measures
-pub mod Puts
+pub mod Emission
 pub mod Begin
-pub mod Once
-pub mod Always
+pub mod Determinism
+pub mod Existence

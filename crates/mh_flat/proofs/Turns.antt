@@ -5,19 +5,19 @@ use Rattle.mh_flat.specs.declared.lang.Lang.{Ghosts}
 use Rattle.mh_flat.specs.declared.step.Resumed.{Resumed}
 use Rattle.mh_flat.specs.declared.code.Code.{Code}
 use Rattle.mh_flat.specs.declared.code.State.{State}
-use Rattle.mh_flat.specs.declared.code.Node.{Node}
+use Rattle.mh_flat.specs.declared.code.Instruction.{Instruction}
 use Rattle.mh_flat.specs.Flow.{Item, Reaches, onward, here}
 use Rattle.mh_flat.specs.Machine as machine
-use Rattle.mh_flat.specs.Machine.{act_at, place_of, OnNode, FitsOp, HasRoom}
+use Rattle.mh_flat.specs.Machine.{action_at, configuration_of, OnInstruction, FitsOperation, HasRoom}
 use Rattle.mh_flat.specs.Fits.{FitsItems}
 use Rattle.mh_flat.specs.Words.{Keeps, keeps_same, keeps_on}
 use Rattle.mh_flat.specs.Stands.{Stands, StandsFor, Resumes}
-use Rattle.mh_flat.proofs.Mirror.{rank, mirror, rank_room, node_fits, node_room}
-use Rattle.mh_flat.proofs.Went.{Laws, WentOn, went_on, answered}
+use Rattle.mh_flat.proofs.Simulates.{rank, simulation, rank_room, instruction_fits, instruction_room}
+use Rattle.mh_flat.proofs.Advance.{Laws, Advanced, advanced, answered}
 
 -- what is left of the budget, and the loops that may run out
-abbrev pub measure : {L E P V S F : Type 0} → List (Node L E P V S F) → ℕ → ℕ → State → ℕ
-measure nodes depth budget st = (budget - st.count) * suc depth + rank nodes st.goal
+abbrev pub measure : {L E P V S F : Type 0} → List (Instruction L E P V S F) → ℕ → ℕ → State → ℕ
+measure instructions depth budget st = (budget - st.count) * suc depth + rank instructions st.position
 
 less_budget : (x y d r r' : ℕ) → x < y → r' ≤ d → x * suc d + r' < y * suc d + r
 less_budget x y d r r' h k = grind arith
@@ -30,9 +30,9 @@ falls x y d r r' k h e m (inr z) =
 
 -- A state stands for these items, which fit the store.
 pub record IsLeft {L E P V S F : Type 0} (l : Ghosts L E P V S F) (c : Code L E P V S F) (xs : List (Item E P)) (st : State) (s : S) : Type 0 where
-  pub small : length c.nodes.items < 2 ^ 32
+  pub small : length c.instructions.items < 2 ^ 32
   pub room : c.depth ≡ length st.counters.items
-  pub stands : Stands c.nodes.items c.depth st.counters.items xs st.goal
+  pub stands : Stands c.instructions.items c.depth st.counters.items xs st.position
   pub fits : FitsItems l xs s
 
 pub is_left : {L E P V S F : Type 0} (l : Ghosts L E P V S F) (c : Code L E P V S F) (xs : List (Item E P)) (st : State) (s : S) → StandsFor c xs st → FitsItems l xs s → IsLeft l c xs st s
@@ -49,20 +49,20 @@ module _ {L E P V S F : Type 0} (l : Ghosts L E P V S F) (budget : ℕ) (c : Cod
   pub start_at : (xs : List (Item E P)) (st : State) (s : S) → IsLeft l c xs st s → SoFar xs st s st s
   start_at xs st s h = record { rest = xs; left = h; keeps = keeps_same s; reached = here }
 
-  pub node_fits_at : (xs : List (Item E P)) (st : State) (s : S) → IsLeft l c xs st s → OnNode (slice_get c.nodes.items st.goal.at) (λ op. FitsOp l op st.goal.begun s)
-  node_fits_at xs st s h =
-      node_fits l c.nodes.items c.depth st.counters.items xs st.goal h.stands.leave h.stands.again h.stands.depth s h.stands.does h.fits
+  pub instruction_fits_at : (xs : List (Item E P)) (st : State) (s : S) → IsLeft l c xs st s → OnInstruction (slice_get c.instructions.items st.position.at) (λ operation. FitsOperation l operation st.position.begun s)
+  instruction_fits_at xs st s h =
+      instruction_fits l c.instructions.items c.depth st.counters.items xs st.position h.stands.leave h.stands.again h.stands.depth s h.stands.does h.fits
 
-  pub node_room_at : (xs : List (Item E P)) (st : State) (s : S) → IsLeft l c xs st s → OnNode (slice_get c.nodes.items st.goal.at) (λ op. HasRoom op (length st.counters.items))
-  node_room_at xs st s h =
-      node_room l c.nodes.items c.depth st.counters.items xs st.goal h.stands.leave h.stands.again h.stands.depth (length st.counters.items) h.room h.stands.does
+  pub instruction_room_at : (xs : List (Item E P)) (st : State) (s : S) → IsLeft l c xs st s → OnInstruction (slice_get c.instructions.items st.position.at) (λ operation. HasRoom operation (length st.counters.items))
+  instruction_room_at xs st s h =
+      instruction_room l c.instructions.items c.depth st.counters.items xs st.position h.stands.leave h.stands.again h.stands.depth (length st.counters.items) h.room h.stands.does
 
 module _ {L E P V S F : Type 0} (l : Ghosts L E P V S F) (laws : Laws l) (budget : ℕ) (c : Code L E P V S F) where
-  went : (xs : List (Item E P)) (st st' : State) (s s' : S) → IsLeft l c xs st s → machine.GoesOn l budget (act_at l (slice_get c.nodes.items st.goal.at) st.goal st.counters.items s) (place_of st) s (place_of st') s' → WentOn l laws c.nodes.items c.depth budget st.counters.items xs st.goal st.count s (place_of st') s'
+  went : (xs : List (Item E P)) (st st' : State) (s s' : S) → IsLeft l c xs st s → machine.GoesOn l budget (action_at l (slice_get c.instructions.items st.position.at) st.position st.counters.items s) (configuration_of st) s (configuration_of st') s' → Advanced l laws c.instructions.items c.depth budget st.counters.items xs st.position st.count s (configuration_of st') s'
   went xs st st' s s' h go =
-      went_on l laws c.nodes.items c.depth budget st.counters.items xs st.goal st.count s (place_of st') s' _ _ refl (mirror l c.nodes.items c.depth st.counters.items xs st.goal h.stands.leave h.stands.again h.stands.depth s h.room h.stands.does h.fits) go
+      advanced l laws c.instructions.items c.depth budget st.counters.items xs st.position st.count s (configuration_of st') s' _ _ refl (simulation l c.instructions.items c.depth st.counters.items xs st.position h.stands.leave h.stands.again h.stands.depth s h.room h.stands.does h.fits) go
 
-  pub next : (xs : List (Item E P)) (st0 st st' : State) (s0 s s' : S) → SoFar l budget c xs st0 s0 st s → machine.GoesOn l budget (act_at l (slice_get c.nodes.items st.goal.at) st.goal st.counters.items s) (place_of st) s (place_of st') s' → SoFar l budget c xs st0 s0 st' s'
+  pub next : (xs : List (Item E P)) (st0 st st' : State) (s0 s s' : S) → SoFar l budget c xs st0 s0 st s → machine.GoesOn l budget (action_at l (slice_get c.instructions.items st.position.at) st.position st.counters.items s) (configuration_of st) s (configuration_of st') s' → SoFar l budget c xs st0 s0 st' s'
   next xs st0 st st' s0 s s' h go =
       let w = went h.rest st st' s s' h.left go in
       record {
@@ -72,15 +72,15 @@ module _ {L E P V S F : Type 0} (l : Ghosts L E P V S F) (laws : Laws l) (budget
         reached = subst (λ n. Reaches l budget xs s0 st0.count w.ys s' n) (sym w.counted) (onward h.reached w.moved w.within);
       }
 
-  pub smaller : (xs : List (Item E P)) (st st' : State) (s s' : S) → IsLeft l c xs st s → machine.GoesOn l budget (act_at l (slice_get c.nodes.items st.goal.at) st.goal st.counters.items s) (place_of st) s (place_of st') s' → measure c.nodes.items c.depth budget st' < measure c.nodes.items c.depth budget st
+  pub smaller : (xs : List (Item E P)) (st st' : State) (s s' : S) → IsLeft l c xs st s → machine.GoesOn l budget (action_at l (slice_get c.instructions.items st.position.at) st.position st.counters.items s) (configuration_of st) s (configuration_of st') s' → measure c.instructions.items c.depth budget st' < measure c.instructions.items c.depth budget st
   smaller xs st st' s s' h go =
       let w = went xs st st' s s' h go in
       let fewer : budget - st'.count ≡ (budget - st.count) - w.counts = omega (arith, w.counted) in
-      falls (budget - st'.count) (budget - st.count) c.depth (rank c.nodes.items st.goal) (rank c.nodes.items st'.goal) w.counts w.within fewer (rank_room c.nodes.items c.depth st'.counters.items w.ys st'.goal w.stands.leave w.stands.again w.stands.depth w.stands.does) w.falls
+      falls (budget - st'.count) (budget - st.count) c.depth (rank c.instructions.items st.position) (rank c.instructions.items st'.position) w.counts w.within fewer (rank_room c.instructions.items c.depth st'.counters.items w.ys st'.position w.stands.leave w.stands.again w.stands.depth w.stands.does) w.falls
 
-  pub done : (xs : List (Item E P)) (st0 st st' : State) (s0 s s' : S) (r : Resumed F) → SoFar l budget c xs st0 s0 st s → machine.Answers l budget (act_at l (slice_get c.nodes.items st.goal.at) st.goal st.counters.items s) r (place_of st) s (place_of st') s' → Resumes l budget c xs st0 s0 r st' s'
+  pub done : (xs : List (Item E P)) (st0 st st' : State) (s0 s s' : S) (r : Resumed F) → SoFar l budget c xs st0 s0 st s → machine.Answers l budget (action_at l (slice_get c.instructions.items st.position.at) st.position st.counters.items s) r (configuration_of st) s (configuration_of st') s' → Resumes l budget c xs st0 s0 r st' s'
   done xs st0 st st' s0 s s' r h ans =
-      let a = answered l laws c.nodes.items c.depth budget st.counters.items h.rest st.goal st.count s r (place_of st') s' _ _ refl h.left.stands h.left.fits (mirror l c.nodes.items c.depth st.counters.items h.rest st.goal h.left.stands.leave h.left.stands.again h.left.stands.depth s h.left.room h.left.stands.does h.left.fits) ans in
+      let a = answered l laws c.instructions.items c.depth budget st.counters.items h.rest st.position st.count s r (configuration_of st') s' _ _ refl h.left.stands h.left.fits (simulation l c.instructions.items c.depth st.counters.items h.rest st.position h.left.stands.leave h.left.stands.again h.left.stands.depth s h.left.room h.left.stands.does h.left.fits) ans in
       record {
         rest = a.ys;
         left = record { small = h.left.small; room = h.left.room ∙ sym a.long; stands = a.stands };

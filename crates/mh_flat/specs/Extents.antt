@@ -1,7 +1,7 @@
 -- How far each statement of a body reaches, in order of text.
 use Rattle.std.specs.Prelude.{ℕ, ◌+◌, ◌≡◌, List, [], ◌∷◌, ◌++◌, Some, slice_get}
 use Rattle.mh_flat.specs.declared.code.Extent.{Extent}
-use Rattle.mh_flat.specs.Flow.{Stmt, Block, Assign, Branch, Loop, Range, Pause, Print, Assert, Quit, Leave, Again, End, Then, size, sizes}
+use Rattle.mh_flat.specs.Flow.{Statement, Block, SetStatement, IfStatement, WhileStatement, CountStatement, WaitStatement, SayStatement, CheckStatement, StopStatement, BreakStatement, ContinueStatement, End, Then, size, block_size}
 
 -- The second list stands in the first from place k on.
 abbrev pub HasAt : {A : Type 0} → List A → ℕ → List A → Type 0
@@ -12,30 +12,30 @@ abbrev pub extent : ℕ → ℕ → Extent
 extent front whole = record { front = front; whole = whole }
 
 -- How many statements a statement is without its else part.
-abbrev pub front : {E P : Type 0} → Stmt E P → ℕ
-front (Branch e a b) = 1 + sizes a
-front (Loop e b) = 1 + sizes b
-front (Range p x y z b) = 1 + sizes b
+abbrev pub front : {E P : Type 0} → Statement E P → ℕ
+front (IfStatement e a b) = 1 + block_size a
+front (WhileStatement e b) = 1 + block_size b
+front (CountStatement p x y z b) = 1 + block_size b
 front t = 1
 
 -- How many statements a statement of an else part is, with those behind it, or 0 where it is the only one.
-abbrev pub whole_in_else : {E P : Type 0} → Stmt E P → Block E P → ℕ
+abbrev pub whole_in_else : {E P : Type 0} → Statement E P → Block E P → ℕ
 whole_in_else t End = 0
 whole_in_else t (Then u b) = size t
 
 abbrev mutual
   -- the extents of the statements that a statement holds
-  pub inner_extents : {E P : Type 0} → Stmt E P → List Extent
-  inner_extents (Assign p e) = []
-  inner_extents (Branch e a b) = block_extents a ++ else_extents b
-  inner_extents (Loop e b) = block_extents b
-  inner_extents (Range p x y z b) = block_extents b
-  inner_extents (Pause w) = []
-  inner_extents (Print w) = []
-  inner_extents (Assert e) = []
-  inner_extents Quit = []
-  inner_extents Leave = []
-  inner_extents Again = []
+  pub inner_extents : {E P : Type 0} → Statement E P → List Extent
+  inner_extents (SetStatement p e) = []
+  inner_extents (IfStatement e a b) = block_extents a ++ else_extents b
+  inner_extents (WhileStatement e b) = block_extents b
+  inner_extents (CountStatement p x y z b) = block_extents b
+  inner_extents (WaitStatement w) = []
+  inner_extents (SayStatement w) = []
+  inner_extents (CheckStatement e) = []
+  inner_extents StopStatement = []
+  inner_extents BreakStatement = []
+  inner_extents ContinueStatement = []
 
   -- the extents of a block's statements
   pub block_extents : {E P : Type 0} → Block E P → List Extent
@@ -48,5 +48,5 @@ abbrev mutual
   else_extents (Then t b) = extent (front t) (whole_in_else t b) ∷ (inner_extents t ++ block_extents b)
 
 -- a statement's extents, where its own size is given
-abbrev pub extents_of : {E P : Type 0} → Stmt E P → ℕ → List Extent
+abbrev pub extents_of : {E P : Type 0} → Statement E P → ℕ → List Extent
 extents_of t whole = extent (front t) whole ∷ inner_extents t

@@ -6,64 +6,64 @@ use Rattle.mh_flat.specs.declared.step.Resumed.TheVariants.{Waits, Says, Stopped
 
 -- The statements of a body.
 mutual
-  pub data Stmt (E P : Type 0) : Type 0 where
-    Assign : (place : P) (value : E) → Stmt E P
-    Branch : (test : E) (yes no : Block E P) → Stmt E P
-    Loop : (test : E) (body : Block E P) → Stmt E P
-    Range : (variable : P) (from to by : E) (body : Block E P) → Stmt E P
-    Pause : (what : ℕ) → Stmt E P
-    Print : (what : ℕ) → Stmt E P
-    Assert : (test : E) → Stmt E P
-    Quit : Stmt E P
-    Leave : Stmt E P
-    Again : Stmt E P
+  pub data Statement (E P : Type 0) : Type 0 where
+    SetStatement : (place : P) (value : E) → Statement E P
+    IfStatement : (test : E) (yes no : Block E P) → Statement E P
+    WhileStatement : (test : E) (body : Block E P) → Statement E P
+    CountStatement : (variable : P) (from to step : E) (body : Block E P) → Statement E P
+    WaitStatement : (what : ℕ) → Statement E P
+    SayStatement : (what : ℕ) → Statement E P
+    CheckStatement : (test : E) → Statement E P
+    StopStatement : Statement E P
+    BreakStatement : Statement E P
+    ContinueStatement : Statement E P
 
   pub data Block (E P : Type 0) : Type 0 where
     End : Block E P
-    Then : Stmt E P → Block E P → Block E P
+    Then : Statement E P → Block E P → Block E P
 
 -- How many statements there are, with those that they hold.
 abbrev mutual
-  pub size : {E P : Type 0} → Stmt E P → ℕ
-  size (Assign p e) = 1
-  size (Branch e a b) = 1 + sizes a + sizes b
-  size (Loop e b) = 1 + sizes b
-  size (Range p a z d b) = 1 + sizes b
-  size (Pause w) = 1
-  size (Print w) = 1
-  size (Assert e) = 1
-  size Quit = 1
-  size Leave = 1
-  size Again = 1
+  pub size : {E P : Type 0} → Statement E P → ℕ
+  size (SetStatement p e) = 1
+  size (IfStatement e a b) = 1 + block_size a + block_size b
+  size (WhileStatement e b) = 1 + block_size b
+  size (CountStatement p a z d b) = 1 + block_size b
+  size (WaitStatement w) = 1
+  size (SayStatement w) = 1
+  size (CheckStatement e) = 1
+  size StopStatement = 1
+  size BreakStatement = 1
+  size ContinueStatement = 1
 
-  pub sizes : {E P : Type 0} → Block E P → ℕ
-  sizes End = 0
-  sizes (Then s b) = size s + sizes b
+  pub block_size : {E P : Type 0} → Block E P → ℕ
+  block_size End = 0
+  block_size (Then s b) = size s + block_size b
 
 -- What is left: statements, and loops that have begun, each with its place in order of text.
 pub data Item (E P : Type 0) : Type 0 where
-  Todo : (at : ℕ) → Stmt E P → Item E P
-  InLoop : (at : ℕ) (test : E) (body : Block E P) → Item E P
-  InRange : (at : ℕ) (variable : P) (next to by : ℤ) (body : Block E P) → Item E P
+  Pending : (at : ℕ) → Statement E P → Item E P
+  BegunWhile : (at : ℕ) (test : E) (body : Block E P) → Item E P
+  BegunCount : (at : ℕ) (variable : P) (next to step : ℤ) (body : Block E P) → Item E P
 
 -- the statements of a block whose first has the place k, and then the rest
-abbrev pub todo : {E P : Type 0} → ℕ → Block E P → List (Item E P) → List (Item E P)
-todo k End rest = rest
-todo k (Then s b) rest = Todo k s ∷ todo (k + size s) b rest
+abbrev pub block_items : {E P : Type 0} → ℕ → Block E P → List (Item E P) → List (Item E P)
+block_items k End rest = rest
+block_items k (Then s b) rest = Pending k s ∷ block_items (k + size s) b rest
 
 -- what is left behind the first loop that has begun
 abbrev pub after_loop : {E P : Type 0} → List (Item E P) → List (Item E P)
 after_loop [] = []
-after_loop (Todo k s ∷ rest) = after_loop rest
-after_loop (InLoop k e b ∷ rest) = rest
-after_loop (InRange k p n z d b ∷ rest) = rest
+after_loop (Pending k s ∷ rest) = after_loop rest
+after_loop (BegunWhile k e b ∷ rest) = rest
+after_loop (BegunCount k p n z d b ∷ rest) = rest
 
 -- what is left from the first loop on that has begun
 abbrev pub from_loop : {E P : Type 0} → List (Item E P) → List (Item E P)
 from_loop [] = []
-from_loop (Todo k s ∷ rest) = from_loop rest
-from_loop (InLoop k e b ∷ rest) = InLoop k e b ∷ rest
-from_loop (InRange k p n z d b ∷ rest) = InRange k p n z d b ∷ rest
+from_loop (Pending k s ∷ rest) = from_loop rest
+from_loop (BegunWhile k e b ∷ rest) = BegunWhile k e b ∷ rest
+from_loop (BegunCount k p n z d b ∷ rest) = BegunCount k p n z d b ∷ rest
 
 -- whether n stands before z in the direction of d
 abbrev pub is_before : ℤ → ℤ → ℤ → Bool
@@ -71,56 +71,56 @@ is_before n z d = cond (int_lt (pos 0) d) (int_lt n z) (cond (int_lt d (pos 0)) 
 
 -- What one rewriting does: it goes on, it stops with an answer, it meets a fault, or nothing was left.
 -- The number is 1 where it counts as a statement, else 0.
-pub data Move (E P S F : Type 0) : Type 0 where
-  Goes : (counts : ℕ) → List (Item E P) → S → Move E P S F
-  Halts : (counts : ℕ) → Resumed F → List (Item E P) → S → Move E P S F
-  Fails : (at : ℕ) → F → Move E P S F
-  Ends : Move E P S F
+pub data Outcome (E P S F : Type 0) : Type 0 where
+  Proceeds : (counts : ℕ) → List (Item E P) → S → Outcome E P S F
+  Halts : (counts : ℕ) → Resumed F → List (Item E P) → S → Outcome E P S F
+  Fails : (at : ℕ) → F → Outcome E P S F
+  Ends : Outcome E P S F
 
 -- goes on with a value, or fails at this place
-abbrev pub given : {A E P S F : Type 0} → ℕ → Result A F → (A → Move E P S F) → Move E P S F
-given k (Ok x) go = go x
-given k (Err f) go = Fails k f
+abbrev pub with_value : {A E P S F : Type 0} → ℕ → Result A F → (A → Outcome E P S F) → Outcome E P S F
+with_value k (Ok x) go = go x
+with_value k (Err f) go = Fails k f
 
 module _ {L E P V S F : Type 0} (l : Ghosts L E P V S F) where
   -- a loop's test, and then a turn or what follows
-  abbrev pub turn : ℕ → E → Block E P → List (Item E P) → S → Move E P S F
-  turn k e b rest s =
-      given k (l.value_of e s) (λ v. Goes 1 (cond (l.is_true v) (todo (k + 1) b (InLoop k e b ∷ rest)) rest) s)
+  abbrev pub while_turn : ℕ → E → Block E P → List (Item E P) → S → Outcome E P S F
+  while_turn k e b rest s =
+      with_value k (l.value_of e s) (λ v. Proceeds 1 (cond (l.is_true v) (block_items (k + 1) b (BegunWhile k e b ∷ rest)) rest) s)
 
   -- a range's next number, or what follows
-  abbrev pub next_turn : ℕ → P → ℤ → ℤ → ℤ → Block E P → List (Item E P) → S → Move E P S F
-  next_turn k p n z d b rest s =
-      cond (is_before n z d) (Goes 1 (todo (k + 1) b (InRange k p (n +ℤ d) z d b ∷ rest)) (l.counted p n s)) (Goes 0 rest s)
+  abbrev pub count_turn : ℕ → P → ℤ → ℤ → ℤ → Block E P → List (Item E P) → S → Outcome E P S F
+  count_turn k p n z d b rest s =
+      cond (is_before n z d) (Proceeds 1 (block_items (k + 1) b (BegunCount k p (n +ℤ d) z d b ∷ rest)) (l.counted p n s)) (Proceeds 0 rest s)
 
   -- one statement
-  abbrev pub do_one : ℕ → Stmt E P → List (Item E P) → S → Move E P S F
-  do_one k (Assign p e) rest s = given k (l.value_of e s) (λ v. given k (l.assigned p v s) (λ s'. Goes 1 rest s'))
-  do_one k (Branch e a b) rest s =
-      given k (l.value_of e s) (λ v. Goes 1 (cond (l.is_true v) (todo (k + 1) a rest) (todo (k + 1 + sizes a) b rest)) s)
-  do_one k (Loop e b) rest s = turn k e b rest s
-  do_one k (Range p a z d b) rest s =
-      given k (l.value_of a s) (λ x. given k (l.value_of z s) (λ y. given k (l.value_of d s) (λ w. Goes 1 (InRange k p (l.number_of x) (l.number_of y) (l.number_of w) b ∷ rest) s)))
-  do_one k (Pause w) rest s = Halts 0 (Waits w) rest s
-  do_one k (Print w) rest s = Halts 1 (Says w) rest s
-  do_one k (Assert e) rest s =
-      given k (l.value_of e s) (λ v. cond (l.is_true v) (Goes 1 rest s) (Halts 1 (CheckFailed k) rest s))
-  do_one k Quit rest s = Halts 1 Stopped rest s
-  do_one k Leave rest s = Goes 1 (after_loop rest) s
-  do_one k Again rest s = Goes 1 (from_loop rest) s
+  abbrev pub statement_outcome : ℕ → Statement E P → List (Item E P) → S → Outcome E P S F
+  statement_outcome k (SetStatement p e) rest s = with_value k (l.value_of e s) (λ v. with_value k (l.assigned p v s) (λ s'. Proceeds 1 rest s'))
+  statement_outcome k (IfStatement e a b) rest s =
+      with_value k (l.value_of e s) (λ v. Proceeds 1 (cond (l.is_true v) (block_items (k + 1) a rest) (block_items (k + 1 + block_size a) b rest)) s)
+  statement_outcome k (WhileStatement e b) rest s = while_turn k e b rest s
+  statement_outcome k (CountStatement p a z d b) rest s =
+      with_value k (l.value_of a s) (λ x. with_value k (l.value_of z s) (λ y. with_value k (l.value_of d s) (λ w. Proceeds 1 (BegunCount k p (l.number_of x) (l.number_of y) (l.number_of w) b ∷ rest) s)))
+  statement_outcome k (WaitStatement w) rest s = Halts 0 (Waits w) rest s
+  statement_outcome k (SayStatement w) rest s = Halts 1 (Says w) rest s
+  statement_outcome k (CheckStatement e) rest s =
+      with_value k (l.value_of e s) (λ v. cond (l.is_true v) (Proceeds 1 rest s) (Halts 1 (CheckFailed k) rest s))
+  statement_outcome k StopStatement rest s = Halts 1 Stopped rest s
+  statement_outcome k BreakStatement rest s = Proceeds 1 (after_loop rest) s
+  statement_outcome k ContinueStatement rest s = Proceeds 1 (from_loop rest) s
 
   -- one rewriting
-  abbrev pub rewrite : List (Item E P) → S → Move E P S F
-  rewrite [] s = Ends
-  rewrite (Todo k t ∷ rest) s = do_one k t rest s
-  rewrite (InLoop k e b ∷ rest) s = turn k e b rest s
-  rewrite (InRange k p n z d b ∷ rest) s = next_turn k p n z d b rest s
+  abbrev pub rewriting : List (Item E P) → S → Outcome E P S F
+  rewriting [] s = Ends
+  rewriting (Pending k t ∷ rest) s = statement_outcome k t rest s
+  rewriting (BegunWhile k e b ∷ rest) s = while_turn k e b rest s
+  rewriting (BegunCount k p n z d b ∷ rest) s = count_turn k p n z d b rest s
 
 -- whether the head is something that counts
 abbrev pub does_count : {E P : Type 0} → List (Item E P) → Bool
 does_count [] = false
-does_count (Todo k (Pause w) ∷ rest) = false
-does_count (InRange k p n z d b ∷ rest) = is_before n z d
+does_count (Pending k (WaitStatement w) ∷ rest) = false
+does_count (BegunCount k p n z d b ∷ rest) = is_before n z d
 does_count (x ∷ rest) = true
 
 module _ {L E P V S F : Type 0} (l : Ghosts L E P V S F) (budget : ℕ) where
@@ -128,7 +128,7 @@ module _ {L E P V S F : Type 0} (l : Ghosts L E P V S F) (budget : ℕ) where
   -- A rewriting that counts is done only while the count is below the budget.
   pub data Reaches (xs : List (Item E P)) (s : S) (n : ℕ) : List (Item E P) → S → ℕ → Type 0 where
     here : Reaches xs s n xs s n
-    onward : {ys zs : List (Item E P)} {t u : S} {m k : ℕ} → Reaches xs s n ys t m → rewrite l ys t ≡ Goes k zs u → k ≤ budget - m → Reaches xs s n zs u (m + k)
+    onward : {ys zs : List (Item E P)} {t u : S} {m k : ℕ} → Reaches xs s n ys t m → rewriting l ys t ≡ Proceeds k zs u → k ≤ budget - m → Reaches xs s n zs u (m + k)
 
   -- nothing has changed
   abbrev pub Stays : List (Item E P) → S → ℕ → List (Item E P) → S → ℕ → Type 0
@@ -136,17 +136,17 @@ module _ {L E P V S F : Type 0} (l : Ghosts L E P V S F) (budget : ℕ) where
 
   -- a fault of the head, or want of memory where the head assigns
   abbrev pub FailsAt : List (Item E P) → S → ℕ → F → Type 0
-  FailsAt (Todo k (Assign p e) ∷ rest) s at f =
-      (rewrite l (Todo k (Assign p e) ∷ rest) s ≡ Fails at f) ⊎ ((at ≡ k) × IsTrue (l.is_memory f))
-  FailsAt xs s at f = rewrite l xs s ≡ Fails at f
+  FailsAt (Pending k (SetStatement p e) ∷ rest) s at f =
+      (rewriting l (Pending k (SetStatement p e) ∷ rest) s ≡ Fails at f) ⊎ ((at ≡ k) × IsTrue (l.is_memory f))
+  FailsAt xs s at f = rewriting l xs s ≡ Fails at f
 
   -- the answer at what is left, and what is left after it
   abbrev pub Answers : Resumed F → List (Item E P) → S → ℕ → List (Item E P) → S → ℕ → Type 0
-  Answers (Waits w) xs s n ys t m = (rewrite l xs s ≡ Halts 0 (Waits w) ys t) × (m ≡ 0)
-  Answers Ended xs s n ys t m = (rewrite l xs s ≡ Ends) × Stays xs s n ys t m
+  Answers (Waits w) xs s n ys t m = (rewriting l xs s ≡ Halts 0 (Waits w) ys t) × (m ≡ 0)
+  Answers Ended xs s n ys t m = (rewriting l xs s ≡ Ends) × Stays xs s n ys t m
   Answers (Fault at f) xs s n ys t m = (n < budget) × FailsAt xs s at f × Stays xs s n ys t m
   Answers TurnLimit xs s n ys t m = (does_count xs ≡ true) × (budget ≤ n) × Stays xs s n ys t m
-  Answers r xs s n ys t m = (rewrite l xs s ≡ Halts 1 r ys t) × (n < budget) × (m ≡ n + 1)
+  Answers r xs s n ys t m = (rewriting l xs s ≡ Halts 1 r ys t) × (n < budget) × (m ≡ n + 1)
 
   -- An evaluation: rewritings up to the next stop, and its answer.
   pub record Evaluates (xs : List (Item E P)) (s : S) (n : ℕ) (r : Resumed F) (ys : List (Item E P)) (t : S) (m : ℕ) : Type 0 where
@@ -170,5 +170,5 @@ module _ {L E P V S F : Type 0} (l : Ghosts L E P V S F) (budget : ℕ) where
   reaches_on a (onward r e le) = onward (reaches_on a r) e le
 
   -- a statement that goes on, and then the rest of its block
-  pub reaches_once : {xs : List (Item E P)} {s : S} {n : ℕ} {ys : List (Item E P)} {t : S} {k : ℕ} → rewrite l xs s ≡ Goes k ys t → k ≤ budget - n → Reaches xs s n ys t (n + k)
+  pub reaches_once : {xs : List (Item E P)} {s : S} {n : ℕ} {ys : List (Item E P)} {t : S} {k : ℕ} → rewriting l xs s ≡ Proceeds k ys t → k ≤ budget - n → Reaches xs s n ys t (n + k)
   reaches_once e le = onward here e le

@@ -1,90 +1,90 @@
 -- What the code holds of a body, and which items a state stands for.
 use Rattle.std.specs.Prelude.{ℕ, ℤ, suc, ◌+◌, ◌<◌, ◌^◌, true, false, List, [], ◌∷◌, ◌≡◌, Option, Some, slice_get, length}
 use Rattle.mh_flat.specs.declared.lang.Lang.{Ghosts}
-use Rattle.mh_flat.specs.declared.code.Goal.{Goal}
-use Rattle.mh_flat.specs.declared.code.Op.{Op}
-use Rattle.mh_flat.specs.declared.code.Op.TheVariants.{Store, Fork, Cycle, Sweep, Hold, Tell, Require, Exit, Jump}
-use Rattle.mh_flat.specs.declared.code.Node.{Node}
+use Rattle.mh_flat.specs.declared.code.Position.{Position}
+use Rattle.mh_flat.specs.declared.code.Operation.{Operation}
+use Rattle.mh_flat.specs.declared.code.Operation.TheVariants.{Assign, Branch, Repeat, Iterate, Suspend, Report, Assert, Finish, Jump}
+use Rattle.mh_flat.specs.declared.code.Instruction.{Instruction}
 use Rattle.mh_flat.specs.declared.code.Code.{Code}
 use Rattle.mh_flat.specs.declared.code.Counter.{Counter}
 use Rattle.mh_flat.specs.declared.code.State.{State}
-use Rattle.mh_flat.specs.Flow.{Stmt, Block, Item, Assign, Branch, Loop, Range, Pause, Print, Assert, Quit, Leave, Again, End, Then, Todo, InLoop, InRange, size, sizes, Evaluates}
+use Rattle.mh_flat.specs.Flow.{Statement, Block, Item, SetStatement, IfStatement, WhileStatement, CountStatement, WaitStatement, SayStatement, CheckStatement, StopStatement, BreakStatement, ContinueStatement, End, Then, Pending, BegunWhile, BegunCount, size, block_size, Evaluates}
 use Rattle.mh_flat.specs.Fits.{FitsItems}
 use Rattle.mh_flat.specs.Words.{Keeps}
 use Rattle.mh_flat.specs.declared.step.Resumed.{Resumed}
 use Rattle.mh_flat.specs.Machine.{IsNext}
 
 -- a statement at k, and a loop at k that has begun
-abbrev pub fresh : ℕ → Goal
+abbrev pub fresh : ℕ → Position
 fresh k = record { at = k; begun = false }
 
-abbrev pub begun : ℕ → Goal
+abbrev pub begun : ℕ → Position
 begun k = record { at = k; begun = true }
 
 -- where a block at k begins, or what follows it
-abbrev pub first : {E P : Type 0} → ℕ → Block E P → Goal → Goal
+abbrev pub first : {E P : Type 0} → ℕ → Block E P → Position → Position
 first k End after = after
 first k (Then t b) after = fresh k
 
-module _ {L E P V S F : Type 0} (nodes : List (Node L E P V S F)) (room : ℕ) where
+module _ {L E P V S F : Type 0} (instructions : List (Instruction L E P V S F)) (room : ℕ) where
   -- The node at k.
-  abbrev pub HasNode : ℕ → Op L E P V S F → Goal → Type 0
-  HasNode k op after = slice_get nodes k ≡ Some (record { op = op; after = after })
+  abbrev pub HasInstruction : ℕ → Operation L E P V S F → Position → Type 0
+  HasInstruction k operation after = slice_get instructions k ≡ Some (record { operation = operation; after = after })
 
   -- The nodes from k on are those of a statement, or of a block: what follows it, where a break and a
   -- continue lead, and how many counted loops are around it.
   abbrev mutual
-    pub HasStmt : Stmt E P → ℕ → (after leave again : Goal) → (depth : ℕ) → Type 0
-    HasStmt (Assign p e) k after leave again d = HasNode k (Store p e) after
-    HasStmt (Branch e a b) k after leave again d =
-        HasNode k (Fork e (first (k + 1) a after) (first (k + 1 + sizes a) b after)) after × HasBlock a (k + 1) after leave again d × HasBlock b (k + 1 + sizes a) after leave again d
-    HasStmt (Loop e b) k after leave again d =
-        HasNode k (Cycle e (first (k + 1) b (begun k))) after × HasBlock b (k + 1) (begun k) after (begun k) d
-    HasStmt (Range p x z w b) k after leave again d =
-        (d < room) × HasNode k (Sweep p x z w d (first (k + 1) b (begun k))) after × HasBlock b (k + 1) (begun k) after (begun k) (suc d)
-    HasStmt (Pause w) k after leave again d = HasNode k (Hold w) after
-    HasStmt (Print w) k after leave again d = HasNode k (Tell w) after
-    HasStmt (Assert e) k after leave again d = HasNode k (Require e) after
-    HasStmt Quit k after leave again d = HasNode k Exit after
-    HasStmt Leave k after leave again d = HasNode k Jump leave
-    HasStmt Again k after leave again d = HasNode k Jump again
+    pub HasStatement : Statement E P → ℕ → (after leave again : Position) → (depth : ℕ) → Type 0
+    HasStatement (SetStatement p e) k after leave again d = HasInstruction k (Assign p e) after
+    HasStatement (IfStatement e a b) k after leave again d =
+        HasInstruction k (Branch e (first (k + 1) a after) (first (k + 1 + block_size a) b after)) after × HasBlock a (k + 1) after leave again d × HasBlock b (k + 1 + block_size a) after leave again d
+    HasStatement (WhileStatement e b) k after leave again d =
+        HasInstruction k (Repeat e (first (k + 1) b (begun k))) after × HasBlock b (k + 1) (begun k) after (begun k) d
+    HasStatement (CountStatement p x z w b) k after leave again d =
+        (d < room) × HasInstruction k (Iterate p x z w d (first (k + 1) b (begun k))) after × HasBlock b (k + 1) (begun k) after (begun k) (suc d)
+    HasStatement (WaitStatement w) k after leave again d = HasInstruction k (Suspend w) after
+    HasStatement (SayStatement w) k after leave again d = HasInstruction k (Report w) after
+    HasStatement (CheckStatement e) k after leave again d = HasInstruction k (Assert e) after
+    HasStatement StopStatement k after leave again d = HasInstruction k Finish after
+    HasStatement BreakStatement k after leave again d = HasInstruction k Jump leave
+    HasStatement ContinueStatement k after leave again d = HasInstruction k Jump again
 
-    pub HasBlock : Block E P → ℕ → (after leave again : Goal) → (depth : ℕ) → Type 0
+    pub HasBlock : Block E P → ℕ → (after leave again : Position) → (depth : ℕ) → Type 0
     HasBlock End k after leave again d = Unit {0}
     HasBlock (Then t b) k after leave again d =
-        HasStmt t k (first (k + size t) b after) leave again d × HasBlock b (k + size t) after leave again d
+        HasStatement t k (first (k + size t) b after) leave again d × HasBlock b (k + size t) after leave again d
 
   -- behind the last node
-  abbrev pub end : Goal
-  end = fresh (length nodes)
+  abbrev pub end : Position
+  end = fresh (length instructions)
 
   -- the counter of a loop that has begun
   abbrev pub HasCounter : List Counter → ℕ → ℤ → ℤ → ℤ → Type 0
   HasCounter cs d n z w =
-      (o : Option ℤ) × IsNext o n z w × (slice_get cs d ≡ Some (record { next = o; to = z; by = w }))
+      (o : Option ℤ) × IsNext o n z w × (slice_get cs d ≡ Some (record { next = o; to = z; step = w }))
 
   -- From a goal on the code does these items, with these counters.
-  abbrev pub Does : List Counter → List (Item E P) → Goal → (leave again : Goal) → (depth : ℕ) → Type 0
+  abbrev pub Does : List Counter → List (Item E P) → Position → (leave again : Position) → (depth : ℕ) → Type 0
   Does cs [] g leave again d = (g ≡ end) × (leave ≡ end) × (again ≡ end)
-  Does cs (Todo k t ∷ rest) g leave again d =
-      (g ≡ fresh k) × ((after : Goal) × HasStmt t k after leave again d × Does cs rest after leave again d)
-  Does cs (InLoop k e b ∷ rest) g leave again d =
-      (g ≡ begun k) × (again ≡ begun k) × ((leave' : Goal) × (again' : Goal) × HasStmt (Loop e b) k leave leave' again' d × Does cs rest leave leave' again' d)
-  Does cs (InRange k p n z w b ∷ rest) g leave again d =
-      (g ≡ begun k) × (again ≡ begun k) × ((leave' : Goal) × (again' : Goal) × (d' : ℕ) × (x : E) × (y : E) × (v : E) × (d ≡ suc d') × HasStmt (Range p x y v b) k leave leave' again' d' × HasCounter cs d' n z w × Does cs rest leave leave' again' d')
+  Does cs (Pending k t ∷ rest) g leave again d =
+      (g ≡ fresh k) × ((after : Position) × HasStatement t k after leave again d × Does cs rest after leave again d)
+  Does cs (BegunWhile k e b ∷ rest) g leave again d =
+      (g ≡ begun k) × (again ≡ begun k) × ((leave' : Position) × (again' : Position) × HasStatement (WhileStatement e b) k leave leave' again' d × Does cs rest leave leave' again' d)
+  Does cs (BegunCount k p n z w b ∷ rest) g leave again d =
+      (g ≡ begun k) × (again ≡ begun k) × ((leave' : Position) × (again' : Position) × (d' : ℕ) × (x : E) × (y : E) × (v : E) × (d ≡ suc d') × HasStatement (CountStatement p x y v b) k leave leave' again' d' × HasCounter cs d' n z w × Does cs rest leave leave' again' d')
 
   -- From a goal on, with these counters, the code does these items.
-  pub record Stands (cs : List Counter) (xs : List (Item E P)) (g : Goal) : Type 0 where
-    pub leave : Goal
-    pub again : Goal
+  pub record Stands (cs : List Counter) (xs : List (Item E P)) (g : Position) : Type 0 where
+    pub leave : Position
+    pub again : Position
     pub depth : ℕ
     pub does : Does cs xs g leave again depth
 
 -- A state of this code stands for these items.
 pub record StandsFor {L E P V S F : Type 0} (c : Code L E P V S F) (xs : List (Item E P)) (st : State) : Type 0 where
-  pub small : length c.nodes.items < 2 ^ 32
+  pub small : length c.instructions.items < 2 ^ 32
   pub room : c.depth ≡ length st.counters.items
-  pub stands : Stands c.nodes.items c.depth st.counters.items xs st.goal
+  pub stands : Stands c.instructions.items c.depth st.counters.items xs st.position
 
 -- What `resume` does: an evaluation of what is left. The new state stands for what is left then, and
 -- whatever fitted the store fits it still.

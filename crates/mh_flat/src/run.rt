@@ -1,129 +1,129 @@
 ghost use Rattle.std.specs.Prelude.{◌≡◌, ℕ, ℤ, ◌+◌, ◌<◌, ◌≤◌, ◌^◌, ◌+ℤ◌, ◌↔◌, true, false, IsTrue, List, Option, MatchOption, IfOk, length, slice_get};
 ghost use Rattle.mh_flat.specs.Flow.{Block, Item, is_before};
-ghost use Rattle.mh_flat.specs.Machine.{act_at, act_op, act_counts, IsNext, sweep, sweep_from, before_from, op_counts, OnNode, Does, FitsOp, HasRoom, place_of};
+ghost use Rattle.mh_flat.specs.Machine.{action_at, operation_action, action_counts, IsNext, counter_turn, number_turn, number_before, operation_counts, OnInstruction, Does, FitsOperation, HasRoom, configuration_of};
 ghost use Rattle.mh_flat.specs.Fits.{FitsItems};
 ghost use Rattle.mh_flat.specs.Stands.{StandsFor, Resumes};
 ghost use Rattle.mh_flat.specs.Flat.{IsCodeOf, Starts};
 
-use crate::code::{Code, Counter, Goal, Node, Op, State};
+use crate::code::{Code, Counter, Position, Instruction, Operation, State};
 use crate::lang::Lang;
 use crate::step::Resumed;
 use mh_text::Memory;
 use std::alloc::Global;
 
 /// Whether n stands before z in the direction of d.
-fn stands_before(n: i128, z: i128, d: i128) -> bool
-    ensures { result ≡ is_before n z d }
+fn stands_before(number: i128, limit: i128, step: i128) -> bool
+    ensures { result ≡ is_before number limit step }
 {
-    if d > 0 {
-        n < z
-    } else if d < 0 {
-        z < n
+    if step > 0 {
+        number < limit
+    } else if step < 0 {
+        limit < number
     } else {
         false
     }
 }
 
 /// The number that follows n, if there is one and it may matter.
-fn next_number(n: i128, z: i128, d: i128) -> Option<i128>
-    requires { is_before n z d ≡ true }
-    ensures { IsNext result (n +ℤ d) z d }
+fn next_number(number: i128, limit: i128, step: i128) -> Option<i128>
+    requires { is_before number limit step ≡ true }
+    ensures { IsNext result (number +ℤ step) limit step }
 {
-    n.checked_add(d)
+    number.checked_add(step)
 }
 
-fn store<L: Lang>(
-    p: &L::Place,
-    e: &L::Expr,
-    after: Goal,
-    st: &mut State,
-    s: &mut L::Store,
+fn run_assign<L: Lang>(
+    place: &L::Place,
+    expression: &L::Expr,
+    after: Position,
+    state: &mut State,
+    store: &mut L::Store,
     budget: u64,
 ) -> Option<Resumed<L::Fault>>
-    requires fits { FitsOp L.Lang (Op.Store p.now e.now) false s.old }
-    requires small { st.old.goal.at < 2 ^ 32 }
-    requires below { st.old.count < budget }
-    ensures { Does L.Lang budget (act_op L.Lang (Op.Store p.now e.now) after st.old.goal st.old.counters.items s.old) result (place_of st.old) s.old (place_of st.new) s.new }
+    requires fits { FitsOperation L.Lang (Operation.Assign place.now expression.now) false store.old }
+    requires small { state.old.position.at < 2 ^ 32 }
+    requires below { state.old.count < budget }
+    ensures { Does L.Lang budget (operation_action L.Lang (Operation.Assign place.now expression.now) after state.old.position state.old.counters.items store.old) result (configuration_of state.old) store.old (configuration_of state.new) store.new }
 {
-    match L::eval(e, s) {
-        Err(f) => Some(Resumed::Fault(st.goal.at as u32, f)),
-        Ok(v) => match L::assign(p, v, s) {
-            Err(f) => Some(Resumed::Fault(st.goal.at as u32, f)),
+    match L::eval(expression, store) {
+        Err(fault) => Some(Resumed::Fault(state.position.at as u32, fault)),
+        Ok(value) => match L::assign(place, value, store) {
+            Err(fault) => Some(Resumed::Fault(state.position.at as u32, fault)),
             Ok(()) => {
-                st.goal = after;
-                st.count += 1;
+                state.position = after;
+                state.count += 1;
                 None
             }
         },
     }
 }
 
-fn fork<L: Lang>(
-    e: &L::Expr,
-    one: Goal,
-    two: Goal,
-    after: Goal,
-    st: &mut State,
-    s: &L::Store,
+fn run_branch<L: Lang>(
+    expression: &L::Expr,
+    one: Position,
+    two: Position,
+    after: Position,
+    state: &mut State,
+    store: &L::Store,
     budget: u64,
 ) -> Option<Resumed<L::Fault>>
-    requires fits { FitsOp L.Lang (Op.Fork e.now one two) false s.now }
-    requires small { st.old.goal.at < 2 ^ 32 }
-    requires below { st.old.count < budget }
-    ensures { Does L.Lang budget (act_op L.Lang (Op.Fork e.now one two) after st.old.goal st.old.counters.items s.now) result (place_of st.old) s.now (place_of st.new) s.now }
+    requires fits { FitsOperation L.Lang (Operation.Branch expression.now one two) false store.now }
+    requires small { state.old.position.at < 2 ^ 32 }
+    requires below { state.old.count < budget }
+    ensures { Does L.Lang budget (operation_action L.Lang (Operation.Branch expression.now one two) after state.old.position state.old.counters.items store.now) result (configuration_of state.old) store.now (configuration_of state.new) store.now }
 {
-    match L::eval(e, s) {
-        Err(f) => Some(Resumed::Fault(st.goal.at as u32, f)),
-        Ok(v) => {
-            st.goal = if L::truth(&v) { one } else { two };
-            st.count += 1;
+    match L::eval(expression, store) {
+        Err(fault) => Some(Resumed::Fault(state.position.at as u32, fault)),
+        Ok(value) => {
+            state.position = if L::truth(&value) { one } else { two };
+            state.count += 1;
             None
         }
     }
 }
 
-fn cycle<L: Lang>(
-    e: &L::Expr,
-    body: Goal,
-    after: Goal,
-    st: &mut State,
-    s: &L::Store,
+fn run_repeat<L: Lang>(
+    expression: &L::Expr,
+    body: Position,
+    after: Position,
+    state: &mut State,
+    store: &L::Store,
     budget: u64,
 ) -> Option<Resumed<L::Fault>>
-    requires fits { FitsOp L.Lang (Op.Cycle e.now body) false s.now }
-    requires small { st.old.goal.at < 2 ^ 32 }
-    requires below { st.old.count < budget }
-    ensures { Does L.Lang budget (act_op L.Lang (Op.Cycle e.now body) after st.old.goal st.old.counters.items s.now) result (place_of st.old) s.now (place_of st.new) s.now }
+    requires fits { FitsOperation L.Lang (Operation.Repeat expression.now body) false store.now }
+    requires small { state.old.position.at < 2 ^ 32 }
+    requires below { state.old.count < budget }
+    ensures { Does L.Lang budget (operation_action L.Lang (Operation.Repeat expression.now body) after state.old.position state.old.counters.items store.now) result (configuration_of state.old) store.now (configuration_of state.new) store.now }
 {
-    match L::eval(e, s) {
-        Err(f) => Some(Resumed::Fault(st.goal.at as u32, f)),
-        Ok(v) => {
-            st.goal = if L::truth(&v) { body } else { after };
-            st.count += 1;
+    match L::eval(expression, store) {
+        Err(fault) => Some(Resumed::Fault(state.position.at as u32, fault)),
+        Ok(value) => {
+            state.position = if L::truth(&value) { body } else { after };
+            state.count += 1;
             None
         }
     }
 }
 
-fn require<L: Lang>(
-    e: &L::Expr,
-    after: Goal,
-    st: &mut State,
-    s: &L::Store,
+fn run_assert<L: Lang>(
+    expression: &L::Expr,
+    after: Position,
+    state: &mut State,
+    store: &L::Store,
     budget: u64,
 ) -> Option<Resumed<L::Fault>>
-    requires fits { FitsOp L.Lang (Op.Require e.now) false s.now }
-    requires small { st.old.goal.at < 2 ^ 32 }
-    requires below { st.old.count < budget }
-    ensures { Does L.Lang budget (act_op L.Lang (Op.Require e.now) after st.old.goal st.old.counters.items s.now) result (place_of st.old) s.now (place_of st.new) s.now }
+    requires fits { FitsOperation L.Lang (Operation.Assert expression.now) false store.now }
+    requires small { state.old.position.at < 2 ^ 32 }
+    requires below { state.old.count < budget }
+    ensures { Does L.Lang budget (operation_action L.Lang (Operation.Assert expression.now) after state.old.position state.old.counters.items store.now) result (configuration_of state.old) store.now (configuration_of state.new) store.now }
 {
-    let at = st.goal.at as u32;
-    match L::eval(e, s) {
-        Err(f) => Some(Resumed::Fault(at, f)),
-        Ok(v) => {
-            st.goal = after;
-            st.count += 1;
-            if L::truth(&v) {
+    let at = state.position.at as u32;
+    match L::eval(expression, store) {
+        Err(fault) => Some(Resumed::Fault(at, fault)),
+        Ok(value) => {
+            state.position = after;
+            state.count += 1;
+            if L::truth(&value) {
                 None
             } else {
                 Some(Resumed::CheckFailed(at))
@@ -132,81 +132,81 @@ fn require<L: Lang>(
     }
 }
 
-fn enter<L: Lang>(
-    p: &L::Place,
+fn run_entry<L: Lang>(
+    place: &L::Place,
     from: &L::Expr,
     to: &L::Expr,
-    by: &L::Expr,
+    step: &L::Expr,
     depth: usize,
-    body: Goal,
-    after: Goal,
-    st: &mut State,
-    s: &L::Store,
+    body: Position,
+    after: Position,
+    state: &mut State,
+    store: &L::Store,
     budget: u64,
 ) -> Option<Resumed<L::Fault>>
-    requires fits { FitsOp L.Lang (Op.Sweep p.now from.now to.now by.now depth body) false s.now }
-    requires small { st.old.goal.at < 2 ^ 32 }
-    requires below { st.old.count < budget }
-    requires room { depth < length st.old.counters.items }
-    requires fresh { st.old.goal.begun ≡ false }
-    ensures { Does L.Lang budget (act_op L.Lang (Op.Sweep p.now from.now to.now by.now depth body) after st.old.goal st.old.counters.items s.now) result (place_of st.old) s.now (place_of st.new) s.now }
+    requires fits { FitsOperation L.Lang (Operation.Iterate place.now from.now to.now step.now depth body) false store.now }
+    requires small { state.old.position.at < 2 ^ 32 }
+    requires below { state.old.count < budget }
+    requires room { depth < length state.old.counters.items }
+    requires fresh { state.old.position.begun ≡ false }
+    ensures { Does L.Lang budget (operation_action L.Lang (Operation.Iterate place.now from.now to.now step.now depth body) after state.old.position state.old.counters.items store.now) result (configuration_of state.old) store.now (configuration_of state.new) store.now }
 {
-    let at = st.goal.at;
-    let next = match L::eval(from, s) {
-        Err(f) => return Some(Resumed::Fault(at as u32, f)),
-        Ok(v) => L::number(&v),
+    let at = state.position.at;
+    let next = match L::eval(from, store) {
+        Err(fault) => return Some(Resumed::Fault(at as u32, fault)),
+        Ok(value) => L::number(&value),
     };
-    let to = match L::eval(to, s) {
-        Err(f) => return Some(Resumed::Fault(at as u32, f)),
-        Ok(v) => L::number(&v),
+    let to = match L::eval(to, store) {
+        Err(fault) => return Some(Resumed::Fault(at as u32, fault)),
+        Ok(value) => L::number(&value),
     };
-    let by = match L::eval(by, s) {
-        Err(f) => return Some(Resumed::Fault(at as u32, f)),
-        Ok(v) => L::number(&v),
+    let step = match L::eval(step, store) {
+        Err(fault) => return Some(Resumed::Fault(at as u32, fault)),
+        Ok(value) => L::number(&value),
     };
-    st.counters[depth] = Counter {
+    state.counters[depth] = Counter {
         next: Some(next),
         to,
-        by,
+        step,
     };
-    st.goal = Goal { at, begun: true };
-    st.count += 1;
+    state.position = Position { at, begun: true };
+    state.count += 1;
     None
 }
 
-fn go_on<L: Lang>(
-    p: &L::Place,
+fn run_turn<L: Lang>(
+    place: &L::Place,
     depth: usize,
-    body: Goal,
-    after: Goal,
+    body: Position,
+    after: Position,
     counter: Counter,
-    st: &mut State,
-    s: &mut L::Store,
+    state: &mut State,
+    store: &mut L::Store,
     budget: u64,
 ) -> Option<Resumed<L::Fault>>
-    requires fits { L.fits_count p.now s.old }
-    requires below { act_counts {E = L.Expr} {V = L.Value} {S = L.Store} {F = L.Fault} (sweep_from depth p.now body after counter.next counter.to counter.by) ≡ 1 → st.old.count < budget }
-    requires room { depth < length st.old.counters.items }
-    ensures { Does L.Lang budget (sweep_from depth p.now body after counter.next counter.to counter.by) result (place_of st.old) s.old (place_of st.new) s.new }
+    requires fits { L.fits_count place.now store.old }
+    requires below { action_counts {E = L.Expr} {V = L.Value} {S = L.Store} {F = L.Fault} (number_turn depth place.now body after counter.next counter.to counter.step) ≡ 1 → state.old.count < budget }
+    requires room { depth < length state.old.counters.items }
+    ensures { Does L.Lang budget (number_turn depth place.now body after counter.next counter.to counter.step) result (configuration_of state.old) store.old (configuration_of state.new) store.new }
 {
     match counter.next {
         None => {
-            st.goal = after;
+            state.position = after;
             None
         }
-        Some(n) => {
-            if stands_before(n, counter.to, counter.by) {
-                L::count(p, n, s);
-                st.counters[depth] = Counter {
-                    next: next_number(n, counter.to, counter.by),
+        Some(number) => {
+            if stands_before(number, counter.to, counter.step) {
+                L::count(place, number, store);
+                state.counters[depth] = Counter {
+                    next: next_number(number, counter.to, counter.step),
                     to: counter.to,
-                    by: counter.by,
+                    step: counter.step,
                 };
-                st.goal = body;
-                st.count += 1;
+                state.position = body;
+                state.count += 1;
                 None
             } else {
-                st.goal = after;
+                state.position = after;
                 None
             }
         }
@@ -214,15 +214,15 @@ fn go_on<L: Lang>(
 }
 
 /// Whether what stands here counts as a statement.
-fn counts<L: Lang>(op: &Op<L>, st: &State) -> bool
-    requires { HasRoom op.now (length st.now.counters.items) }
-    ensures { result ≡ op_counts op.now st.now.goal.begun st.now.counters.items }
+fn is_counted<L: Lang>(operation: &Operation<L>, state: &State) -> bool
+    requires { HasRoom operation.now (length state.now.counters.items) }
+    ensures { result ≡ operation_counts operation.now state.now.position.begun state.now.counters.items }
 {
-    match op {
-        Op::Hold(_) => false,
-        Op::Sweep(_, _, _, _, depth, _) => {
-            if st.goal.begun {
-                is_unfinished(st.counters[*depth])
+    match operation {
+        Operation::Suspend(_) => false,
+        Operation::Iterate(_, _, _, _, depth, _) => {
+            if state.position.begun {
+                is_unfinished(state.counters[*depth])
             } else {
                 true
             }
@@ -233,119 +233,119 @@ fn counts<L: Lang>(op: &Op<L>, st: &State) -> bool
 
 /// Whether a loop has another turn.
 fn is_unfinished(counter: Counter) -> bool
-    ensures { result ≡ before_from counter.next counter.to counter.by }
+    ensures { result ≡ number_before counter.next counter.to counter.step }
 {
     match counter.next {
         None => false,
-        Some(n) => stands_before(n, counter.to, counter.by),
+        Some(number) => stands_before(number, counter.to, counter.step),
     }
 }
 
 /// What a node does.
-fn run_node<L: Lang>(
-    node: &Node<L>,
-    st: &mut State,
-    s: &mut L::Store,
+fn run_instruction<L: Lang>(
+    instruction: &Instruction<L>,
+    state: &mut State,
+    store: &mut L::Store,
     budget: u64,
 ) -> Option<Resumed<L::Fault>>
-    requires fits { FitsOp L.Lang node.now.op st.old.goal.begun s.old }
-    requires room { HasRoom node.now.op (length st.old.counters.items) }
-    requires small { st.old.goal.at < 2 ^ 32 }
-    requires below { op_counts node.now.op st.old.goal.begun st.old.counters.items ≡ true → st.old.count < budget }
-    ensures { Does L.Lang budget (act_op L.Lang node.now.op node.now.after st.old.goal st.old.counters.items s.old) result (place_of st.old) s.old (place_of st.new) s.new }
+    requires fits { FitsOperation L.Lang instruction.now.operation state.old.position.begun store.old }
+    requires room { HasRoom instruction.now.operation (length state.old.counters.items) }
+    requires small { state.old.position.at < 2 ^ 32 }
+    requires below { operation_counts instruction.now.operation state.old.position.begun state.old.counters.items ≡ true → state.old.count < budget }
+    ensures { Does L.Lang budget (operation_action L.Lang instruction.now.operation instruction.now.after state.old.position state.old.counters.items store.old) result (configuration_of state.old) store.old (configuration_of state.new) store.new }
 {
-    let after = node.after;
-    match &node.op {
-        Op::Store(p, e) => store::<L>(p, e, after, st, s, budget),
-        Op::Fork(e, one, two) => fork::<L>(e, *one, *two, after, st, s, budget),
-        Op::Cycle(e, body) => cycle::<L>(e, *body, after, st, s, budget),
-        Op::Sweep(p, from, to, by, depth, body) => {
-            if st.goal.begun {
-                go_on::<L>(p, *depth, *body, after, st.counters[*depth], st, s, budget)
+    let after = instruction.after;
+    match &instruction.operation {
+        Operation::Assign(place, expression) => run_assign::<L>(place, expression, after, state, store, budget),
+        Operation::Branch(expression, one, two) => run_branch::<L>(expression, *one, *two, after, state, store, budget),
+        Operation::Repeat(expression, body) => run_repeat::<L>(expression, *body, after, state, store, budget),
+        Operation::Iterate(place, from, to, step, depth, body) => {
+            if state.position.begun {
+                run_turn::<L>(place, *depth, *body, after, state.counters[*depth], state, store, budget)
             } else {
-                enter::<L>(p, from, to, by, *depth, *body, after, st, s, budget)
+                run_entry::<L>(place, from, to, step, *depth, *body, after, state, store, budget)
             }
         }
-        Op::Hold(what) => {
-            st.goal = after;
-            st.count = 0;
+        Operation::Suspend(what) => {
+            state.position = after;
+            state.count = 0;
             Some(Resumed::Waits(*what))
         }
-        Op::Tell(what) => {
-            st.goal = after;
-            st.count += 1;
+        Operation::Report(what) => {
+            state.position = after;
+            state.count += 1;
             Some(Resumed::Says(*what))
         }
-        Op::Require(e) => require::<L>(e, after, st, s, budget),
-        Op::Exit => {
-            st.goal = after;
-            st.count += 1;
+        Operation::Assert(expression) => run_assert::<L>(expression, after, state, store, budget),
+        Operation::Finish => {
+            state.position = after;
+            state.count += 1;
             Some(Resumed::Stopped)
         }
-        Op::Jump => {
-            st.goal = after;
-            st.count += 1;
+        Operation::Jump => {
+            state.position = after;
+            state.count += 1;
             None
         }
     }
 }
 
 /// What stands at the goal: one rewriting, or an answer.
-fn step<L: Lang>(
-    c: &Code<L>,
-    st: &mut State,
-    s: &mut L::Store,
+fn advance<L: Lang>(
+    code: &Code<L>,
+    state: &mut State,
+    store: &mut L::Store,
     budget: u64,
 ) -> Option<Resumed<L::Fault>>
-    requires fits { OnNode (slice_get c.now.nodes.items st.old.goal.at) (λ op. FitsOp L.Lang op st.old.goal.begun s.old) }
-    requires room { OnNode (slice_get c.now.nodes.items st.old.goal.at) (λ op. HasRoom op (length st.old.counters.items)) }
-    requires small { length c.now.nodes.items < 2 ^ 32 }
-    ensures { Does L.Lang budget (act_at L.Lang (slice_get c.now.nodes.items st.old.goal.at) st.old.goal st.old.counters.items s.old) result (place_of st.old) s.old (place_of st.new) s.new }
+    requires fits { OnInstruction (slice_get code.now.instructions.items state.old.position.at) (λ operation. FitsOperation L.Lang operation state.old.position.begun store.old) }
+    requires room { OnInstruction (slice_get code.now.instructions.items state.old.position.at) (λ operation. HasRoom operation (length state.old.counters.items)) }
+    requires small { length code.now.instructions.items < 2 ^ 32 }
+    ensures { Does L.Lang budget (action_at L.Lang (slice_get code.now.instructions.items state.old.position.at) state.old.position state.old.counters.items store.old) result (configuration_of state.old) store.old (configuration_of state.new) store.new }
 {
-    let at = st.goal.at;
-    if at >= c.nodes.len() {
+    let at = state.position.at;
+    if at >= code.instructions.len() {
         return Some(Resumed::Ended);
     }
-    let node = &c.nodes[at];
-    if st.count >= budget && counts(&node.op, st) {
+    let instruction = &code.instructions[at];
+    if state.count >= budget && is_counted(&instruction.operation, state) {
         return Some(Resumed::TurnLimit);
     }
-    run_node(node, st, s, budget)
+    run_instruction(instruction, state, store, budget)
 }
 
 /// Goes on up to the next stop.
 pub fn resume<L: Lang>(
-    c: &Code<L>,
-    st: &mut State,
-    s: &mut L::Store,
+    code: &Code<L>,
+    state: &mut State,
+    store: &mut L::Store,
     budget: u64,
 ) -> Resumed<L::Fault>
-    requires { (xs : List (Item L.Expr L.Place)) × StandsFor c.now xs st.old × FitsItems L.Lang xs s.old }
-    ensures { (xs : List (Item L.Expr L.Place)) → StandsFor c.now xs st.old → FitsItems L.Lang xs s.old → Resumes L.Lang budget c.now xs st.old s.old result st.new s.new }
+    requires { (xs : List (Item L.Expr L.Place)) × StandsFor code.now xs state.old × FitsItems L.Lang xs store.old }
+    ensures { (xs : List (Item L.Expr L.Place)) → StandsFor code.now xs state.old → FitsItems L.Lang xs store.old → Resumes L.Lang budget code.now xs state.old store.old result state.new store.new }
 {
     loop {
-        if let Some(answer) = step(c, st, s, budget) {
+        if let Some(answer) = advance(code, state, store, budget) {
             return answer;
         }
     }
 }
 
 /// A body's state before its first statement, with room for the numbers of all its loops.
-pub fn start<L: Lang>(alloc: Global, c: &Code<L>) -> Result<State, Memory>
-    requires { (b : Block L.Expr L.Place) × IsCodeOf b c.now }
-    ensures { IfOk result (λ st. Starts c.now st) }
+pub fn start<L: Lang>(alloc: Global, code: &Code<L>) -> Result<State, Memory>
+    requires { (b : Block L.Expr L.Place) × IsCodeOf b code.now }
+    ensures { IfOk result (λ state. Starts code.now state) }
 {
     let unused = Counter {
         next: None,
         to: 0,
-        by: 0,
+        step: 0,
     };
     Ok(State {
-        goal: Goal {
+        position: Position {
             at: 0,
             begun: false,
         },
-        counters: vec![in alloc; unused; c.depth]?,
+        counters: vec![in alloc; unused; code.depth]?,
         count: 0,
     })
 }

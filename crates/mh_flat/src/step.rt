@@ -20,7 +20,7 @@ impl<L: Lang> Drop for Step<L> {
     fn drop(mut self) {
         loop {
             match self {
-                Step::If(_, _, mut no) => match no.pop() {
+                Step::If(_, _, mut else_part) => match else_part.pop() {
                     Some(last) => self = last,
                     None => return,
                 },
@@ -55,16 +55,16 @@ pub enum Parts<L: Lang> {
 
 impl<L: Lang> Step<L> {
     ghost use Rattle.std.specs.Prelude.{◌≡◌};
-    ghost use Rattle.mh_flat.specs.Body.{stmt_of};
-    ghost use Rattle.mh_flat.specs.Parts.{stmt_of_parts};
+    ghost use Rattle.mh_flat.specs.Body.{statement_of};
+    ghost use Rattle.mh_flat.specs.Parts.{statement_of_parts};
 
     /// Takes a statement apart.
     pub(crate) fn into_parts(self) -> Parts<L>
-        ensures { stmt_of_parts result ≡ stmt_of self }
+        ensures { statement_of_parts result ≡ statement_of self }
     {
         match self {
             Step::Set(place, value) => Parts::Set(place, value),
-            Step::If(test, yes, no) => Parts::If(test, yes, no),
+            Step::If(test, then_part, else_part) => Parts::If(test, then_part, else_part),
             Step::While(test, body) => Parts::While(test, body),
             Step::Count(place, from, to, by, body) => Parts::Count(place, from, to, by, body),
             Step::Wait(what) => Parts::Wait(what),

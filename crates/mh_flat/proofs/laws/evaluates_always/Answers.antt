@@ -1,4 +1,4 @@
-use Rattle.mh_flat.proofs.Always as always
+use Rattle.mh_flat.proofs.Existence as always
 use Rattle.mh_flat.proofs.laws.evaluates_always.Goals as goal
 
 pub returns : goal.returns

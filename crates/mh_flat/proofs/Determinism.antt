@@ -5,15 +5,15 @@ use Rattle.std.proofs.lemmas.Bool.{ltb-true, lt-ltb}
 use Rattle.mh_flat.specs.declared.lang.Lang.{Ghosts}
 use Rattle.mh_flat.specs.declared.step.Resumed.{Resumed}
 use Rattle.mh_flat.specs.declared.step.Resumed.TheVariants.{Waits, Says, Stopped, Ended, CheckFailed, Fault, TurnLimit}
-use Rattle.mh_flat.specs.Flow.{Item, Assign, Branch, Loop, Range, Pause, Print, Assert, Quit, Leave, Again, Todo, InLoop, InRange, Move, Goes, Halts, Fails, Ends, given, rewrite, does_count, Reaches, here, onward, Answers, FailsAt, Evaluates}
+use Rattle.mh_flat.specs.Flow.{Item, SetStatement, IfStatement, WhileStatement, CountStatement, WaitStatement, SayStatement, CheckStatement, StopStatement, BreakStatement, ContinueStatement, Pending, BegunWhile, BegunCount, Outcome, Proceeds, Halts, Fails, Ends, with_value, rewriting, does_count, Reaches, here, onward, Answers, FailsAt, Evaluates}
 
 module _ {L E P V S F : Type 0} (l : Ghosts L E P V S F) (budget : ℕ) where
   -- the same rewritings, from the first on
   data Forth : List (Item E P) → S → ℕ → List (Item E P) → S → ℕ → Type 0 where
     stay : {xs : List (Item E P)} {s : S} {n : ℕ} → Forth xs s n xs s n
-    go : {xs zs ys : List (Item E P)} {s u t : S} {n m : ℕ} (k : ℕ) → rewrite l xs s ≡ Goes k zs u → k ≤ budget - n → Forth zs u (n + k) ys t m → Forth xs s n ys t m
+    go : {xs zs ys : List (Item E P)} {s u t : S} {n m : ℕ} (k : ℕ) → rewriting l xs s ≡ Proceeds k zs u → k ≤ budget - n → Forth zs u (n + k) ys t m → Forth xs s n ys t m
 
-  and_then : {xs ys zs : List (Item E P)} {s t u : S} {n m : ℕ} (k : ℕ) → Forth xs s n ys t m → rewrite l ys t ≡ Goes k zs u → k ≤ budget - m → Forth xs s n zs u (m + k)
+  and_then : {xs ys zs : List (Item E P)} {s t u : S} {n m : ℕ} (k : ℕ) → Forth xs s n ys t m → rewriting l ys t ≡ Proceeds k zs u → k ≤ budget - m → Forth xs s n zs u (m + k)
   and_then k stay e le = go k e le stay
   and_then k (go j d lj f) e le = go j d lj (and_then k f e le)
 
@@ -23,7 +23,7 @@ module _ {L E P V S F : Type 0} (l : Ghosts L E P V S F) (budget : ℕ) where
 
   -- nothing more is done
   abbrev IsOver : List (Item E P) → S → ℕ → Type 0
-  IsOver ys t m = (k : ℕ) (zs : List (Item E P)) (u : S) → rewrite l ys t ≡ Goes k zs u → k ≤ budget - m → ⊥
+  IsOver ys t m = (k : ℕ) (zs : List (Item E P)) (u : S) → rewriting l ys t ≡ Proceeds k zs u → k ≤ budget - m → ⊥
 
   pub record Same (ys : List (Item E P)) (t : S) (m : ℕ) (ys' : List (Item E P)) (t' : S) (m' : ℕ) : Type 0 where
     pub items : ys ≡ ys'
@@ -34,10 +34,10 @@ module _ {L E P V S F : Type 0} (l : Ghosts L E P V S F) (budget : ℕ) where
   met stay o = record { items = refl; store = refl; count = refl }
   met (go {zs = zs} {u = u} k e le f) o = absurd (o k zs u e le)
 
-  step_on : {xs : List (Item E P)} {s : S} {n : ℕ} {ys : List (Item E P)} {t : S} {m : ℕ} (k : ℕ) (zs : List (Item E P)) (u : S) → Forth xs s n ys t m → IsOver ys t m → rewrite l xs s ≡ Goes k zs u → k ≤ budget - n → Forth zs u (n + k) ys t m
+  step_on : {xs : List (Item E P)} {s : S} {n : ℕ} {ys : List (Item E P)} {t : S} {m : ℕ} (k : ℕ) (zs : List (Item E P)) (u : S) → Forth xs s n ys t m → IsOver ys t m → rewriting l xs s ≡ Proceeds k zs u → k ≤ budget - n → Forth zs u (n + k) ys t m
   step_on k zs u stay o e le = absurd (o k zs u e le)
   step_on {n = n} {ys = ys} {t = t} {m = m} k zs u (go {zs = zs'} {u = u'} j d lj f) o e le =
-      let w : Goes j zs' u' ≡ Goes k zs u = sym d ∙ e in
+      let w : Proceeds j zs' u' ≡ Proceeds k zs u = sym d ∙ e in
       let ek : j ≡ k = cc in
       let ez : zs' ≡ zs = cc in
       let eu : u' ≡ u = cc in
@@ -48,37 +48,37 @@ module _ {L E P V S F : Type 0} (l : Ghosts L E P V S F) (budget : ℕ) where
   meets (go {zs = zs} {u = u} k e le f) g o o' = meets f (step_on k zs u g o' e le) o o'
 
   -- how a rewriting counts
-  abbrev move_counts : Move E P S F → ℕ
-  move_counts (Goes k zs u) = k
+  abbrev move_counts : Outcome E P S F → ℕ
+  move_counts (Proceeds k zs u) = k
   move_counts (Halts k r zs u) = k
   move_counts (Fails k f) = 1
   move_counts Ends = 0
 
-  given_counts : {A : Type 0} (k : ℕ) (r : Result A F) (f : A → Move E P S F) → ((x : A) → move_counts (f x) ≡ 1) → move_counts (given k r f) ≡ 1
+  given_counts : {A : Type 0} (k : ℕ) (r : Result A F) (f : A → Outcome E P S F) → ((x : A) → move_counts (f x) ≡ 1) → move_counts (with_value k r f) ≡ 1
   given_counts k (Ok x) f h = h x
   given_counts k (Err e) f h = refl
 
-  cond_counts : (b : Bool) (x y : Move E P S F) → move_counts x ≡ 1 → move_counts y ≡ 1 → move_counts (cond b x y) ≡ 1
+  cond_counts : (b : Bool) (x y : Outcome E P S F) → move_counts x ≡ 1 → move_counts y ≡ 1 → move_counts (cond b x y) ≡ 1
   cond_counts true x y h k = h
   cond_counts false x y h k = k
 
-  counted : (ys : List (Item E P)) (t : S) → does_count ys ≡ true → move_counts (rewrite l ys t) ≡ 1
+  counted : (ys : List (Item E P)) (t : S) → does_count ys ≡ true → move_counts (rewriting l ys t) ≡ 1
   counted [] t h = cc
-  counted (Todo k (Assign p e) ∷ rest) t h =
+  counted (Pending k (SetStatement p e) ∷ rest) t h =
       given_counts k (l.value_of e t) _ (λ v. given_counts k (l.assigned p v t) _ (λ x. refl))
-  counted (Todo k (Branch e a b) ∷ rest) t h = given_counts k (l.value_of e t) _ (λ v. refl)
-  counted (Todo k (Loop e b) ∷ rest) t h = given_counts k (l.value_of e t) _ (λ v. refl)
-  counted (Todo k (Range p x y z b) ∷ rest) t h =
+  counted (Pending k (IfStatement e a b) ∷ rest) t h = given_counts k (l.value_of e t) _ (λ v. refl)
+  counted (Pending k (WhileStatement e b) ∷ rest) t h = given_counts k (l.value_of e t) _ (λ v. refl)
+  counted (Pending k (CountStatement p x y z b) ∷ rest) t h =
       given_counts k (l.value_of x t) _ (λ u. given_counts k (l.value_of y t) _ (λ v. given_counts k (l.value_of z t) _ (λ w. refl)))
-  counted (Todo k (Pause w) ∷ rest) t h = cc
-  counted (Todo k (Print w) ∷ rest) t h = refl
-  counted (Todo k (Assert e) ∷ rest) t h =
+  counted (Pending k (WaitStatement w) ∷ rest) t h = cc
+  counted (Pending k (SayStatement w) ∷ rest) t h = refl
+  counted (Pending k (CheckStatement e) ∷ rest) t h =
       given_counts k (l.value_of e t) _ (λ v. cond_counts (l.is_true v) _ _ refl refl)
-  counted (Todo k Quit ∷ rest) t h = refl
-  counted (Todo k Leave ∷ rest) t h = refl
-  counted (Todo k Again ∷ rest) t h = refl
-  counted (InLoop k e b ∷ rest) t h = given_counts k (l.value_of e t) _ (λ v. refl)
-  counted (InRange k p n z d b ∷ rest) t h = rw h refl
+  counted (Pending k StopStatement ∷ rest) t h = refl
+  counted (Pending k BreakStatement ∷ rest) t h = refl
+  counted (Pending k ContinueStatement ∷ rest) t h = refl
+  counted (BegunWhile k e b ∷ rest) t h = given_counts k (l.value_of e t) _ (λ v. refl)
+  counted (BegunCount k p n z d b ∷ rest) t h = rw h refl
 
   -- an answer, and what is left after it, as one value
   data Out : Type 0 where
@@ -88,9 +88,9 @@ module _ {L E P V S F : Type 0} (l : Ghosts L E P V S F) (budget : ℕ) where
   halted (Waits w) ys t m = Gives (Waits w) ys t 0
   halted r ys t m = Gives r ys t (m + 1)
 
-  abbrev out_of : Bool → Move E P S F → List (Item E P) → S → ℕ → Out
+  abbrev out_of : Bool → Outcome E P S F → List (Item E P) → S → ℕ → Out
   out_of true v ys t m = Gives TurnLimit ys t m
-  out_of false (Goes k zs u) ys t m = Gives Ended ys t m
+  out_of false (Proceeds k zs u) ys t m = Gives Ended ys t m
   out_of false (Halts k r zs u) ys t m = halted r zs u m
   out_of false (Fails k f) ys t m = Gives (Fault k f) ys t m
   out_of false Ends ys t m = Gives Ended ys t m
@@ -109,41 +109,41 @@ module _ {L E P V S F : Type 0} (l : Ghosts L E P V S F) (budget : ℕ) where
   below : (ys : List (Item E P)) (m : ℕ) → m < budget → limit ys m ≡ false
   below ys m h = ap (λ b. cond (does_count ys) (cond b false true) false) (lt-ltb m budget h) ∙ cond_false (does_count ys)
 
-  uncounted : (ys : List (Item E P)) (t : S) (m : ℕ) → (move_counts (rewrite l ys t) ≡ 1 → ⊥) → limit ys m ≡ false
+  uncounted : (ys : List (Item E P)) (t : S) (m : ℕ) → (move_counts (rewriting l ys t) ≡ 1 → ⊥) → limit ys m ≡ false
   uncounted ys t m h =
       ap (λ b. cond b (cond (nat_lt m budget) false true) false) (is_false (does_count ys) (λ e. h (counted ys t e)))
 
   reached : (ys : List (Item E P)) (m : ℕ) → does_count ys ≡ true → budget ≤ m → limit ys m ≡ true
   reached ys m e h = ap (λ b. cond b (cond (nat_lt m budget) false true) false) e ∙ ap (λ b. cond b false true) (is_false (nat_lt m budget) (λ x. let lt : m < budget = ltb-true m budget x in omega arith))
 
-  gives : (ys : List (Item E P)) (t : S) (m : ℕ) (b : Bool) (v : Move E P S F) (o : Out) → limit ys m ≡ b → rewrite l ys t ≡ v → o ≡ out_of b v ys t m → o ≡ out_of (limit ys m) (rewrite l ys t) ys t m
+  gives : (ys : List (Item E P)) (t : S) (m : ℕ) (b : Bool) (v : Outcome E P S F) (o : Out) → limit ys m ≡ b → rewriting l ys t ≡ v → o ≡ out_of b v ys t m → o ≡ out_of (limit ys m) (rewriting l ys t) ys t m
   gives ys t m b v o eb ev h =
       h ∙ ap (λ x. out_of x v ys t m) (sym eb) ∙ ap (λ x. out_of (limit ys m) x ys t m) (sym ev)
 
   module _ (no_memory : (f : F) → l.is_memory f ≡ false) where
-    fails_is : (ys : List (Item E P)) (t : S) (k : ℕ) (f : F) → FailsAt l budget ys t k f → rewrite l ys t ≡ Fails k f
+    fails_is : (ys : List (Item E P)) (t : S) (k : ℕ) (f : F) → FailsAt l budget ys t k f → rewriting l ys t ≡ Fails k f
     fails_is [] t k f h = h
-    fails_is (Todo i (Assign p e) ∷ rest) t k f (inl h) = h
-    fails_is (Todo i (Assign p e) ∷ rest) t k f (inr h) = let e0 : true ≡ false = sym h.1 ∙ no_memory f in cc
-    fails_is (Todo i (Branch e a b) ∷ rest) t k f h = h
-    fails_is (Todo i (Loop e b) ∷ rest) t k f h = h
-    fails_is (Todo i (Range p x y z b) ∷ rest) t k f h = h
-    fails_is (Todo i (Pause w) ∷ rest) t k f h = h
-    fails_is (Todo i (Print w) ∷ rest) t k f h = h
-    fails_is (Todo i (Assert e) ∷ rest) t k f h = h
-    fails_is (Todo i Quit ∷ rest) t k f h = h
-    fails_is (Todo i Leave ∷ rest) t k f h = h
-    fails_is (Todo i Again ∷ rest) t k f h = h
-    fails_is (InLoop i e b ∷ rest) t k f h = h
-    fails_is (InRange i p n z d b ∷ rest) t k f h = h
+    fails_is (Pending i (SetStatement p e) ∷ rest) t k f (inl h) = h
+    fails_is (Pending i (SetStatement p e) ∷ rest) t k f (inr h) = let e0 : true ≡ false = sym h.1 ∙ no_memory f in cc
+    fails_is (Pending i (IfStatement e a b) ∷ rest) t k f h = h
+    fails_is (Pending i (WhileStatement e b) ∷ rest) t k f h = h
+    fails_is (Pending i (CountStatement p x y z b) ∷ rest) t k f h = h
+    fails_is (Pending i (WaitStatement w) ∷ rest) t k f h = h
+    fails_is (Pending i (SayStatement w) ∷ rest) t k f h = h
+    fails_is (Pending i (CheckStatement e) ∷ rest) t k f h = h
+    fails_is (Pending i StopStatement ∷ rest) t k f h = h
+    fails_is (Pending i BreakStatement ∷ rest) t k f h = h
+    fails_is (Pending i ContinueStatement ∷ rest) t k f h = h
+    fails_is (BegunWhile i e b ∷ rest) t k f h = h
+    fails_is (BegunCount i p n z d b ∷ rest) t k f h = h
 
     over : (r : Resumed F) (ys : List (Item E P)) (t : S) (m : ℕ) (ys' : List (Item E P)) (t' : S) (m' : ℕ) → Answers l budget r ys t m ys' t' m' → IsOver ys t m
-    over (Waits w) ys t m ys' t' m' h = λ k zs u e le. let x : Halts 0 (Waits w) ys' t' ≡ Goes k zs u = sym h.0 ∙ e in cc
-    over (Says w) ys t m ys' t' m' h = λ k zs u e le. let x : Halts 1 (Says w) ys' t' ≡ Goes k zs u = sym h.0 ∙ e in cc
-    over Stopped ys t m ys' t' m' h = λ k zs u e le. let x : Halts 1 Stopped ys' t' ≡ Goes k zs u = sym h.0 ∙ e in cc
-    over (CheckFailed w) ys t m ys' t' m' h = λ k zs u e le. let x : Halts 1 (CheckFailed w) ys' t' ≡ Goes k zs u = sym h.0 ∙ e in cc
-    over Ended ys t m ys' t' m' h = λ k zs u e le. let x : Ends ≡ Goes k zs u = sym h.0 ∙ e in cc
-    over (Fault i f) ys t m ys' t' m' h = λ k zs u e le. let x : Fails i f ≡ Goes k zs u = sym (fails_is ys t i f h.1) ∙ e in cc
+    over (Waits w) ys t m ys' t' m' h = λ k zs u e le. let x : Halts 0 (Waits w) ys' t' ≡ Proceeds k zs u = sym h.0 ∙ e in cc
+    over (Says w) ys t m ys' t' m' h = λ k zs u e le. let x : Halts 1 (Says w) ys' t' ≡ Proceeds k zs u = sym h.0 ∙ e in cc
+    over Stopped ys t m ys' t' m' h = λ k zs u e le. let x : Halts 1 Stopped ys' t' ≡ Proceeds k zs u = sym h.0 ∙ e in cc
+    over (CheckFailed w) ys t m ys' t' m' h = λ k zs u e le. let x : Halts 1 (CheckFailed w) ys' t' ≡ Proceeds k zs u = sym h.0 ∙ e in cc
+    over Ended ys t m ys' t' m' h = λ k zs u e le. let x : Ends ≡ Proceeds k zs u = sym h.0 ∙ e in cc
+    over (Fault i f) ys t m ys' t' m' h = λ k zs u e le. let x : Fails i f ≡ Proceeds k zs u = sym (fails_is ys t i f h.1) ∙ e in cc
     over TurnLimit ys t m ys' t' m' h = λ k zs u e le. let x : k ≡ 1 = sym (ap move_counts e) ∙ counted ys t h.0 in absurd (omega (arith, x, le, h.1))
 
     stays : (r : Resumed F) (ys : List (Item E P)) (t : S) (m : ℕ) (zs : List (Item E P)) (u : S) (p : ℕ) → (zs ≡ ys) × (u ≡ t) × (p ≡ m) → Gives r zs u p ≡ Gives r ys t m
@@ -154,7 +154,7 @@ module _ {L E P V S F : Type 0} (l : Ghosts L E P V S F) (budget : ℕ) where
     same_head xs s n r r' ys ys' t t' m m' a b =
         meets (forth a.reached) (forth b.reached) (over r a.head a.store a.count ys t m a.answered) (over r' b.head b.store b.count ys' t' m' b.answered)
 
-    out : (r : Resumed F) (ys : List (Item E P)) (t : S) (m : ℕ) (zs : List (Item E P)) (u : S) (p : ℕ) → Answers l budget r ys t m zs u p → Gives r zs u p ≡ out_of (limit ys m) (rewrite l ys t) ys t m
+    out : (r : Resumed F) (ys : List (Item E P)) (t : S) (m : ℕ) (zs : List (Item E P)) (u : S) (p : ℕ) → Answers l budget r ys t m zs u p → Gives r zs u p ≡ out_of (limit ys m) (rewriting l ys t) ys t m
     out (Waits w) ys t m zs u p h =
         gives ys t m false _ _ (uncounted ys t m (λ e. let x : 0 ≡ 1 = sym (ap move_counts h.0) ∙ e in omega arith)) h.0 (ap (Gives (Waits w) zs u) h.1)
     out (Says w) ys t m zs u p h = gives ys t m false _ _ (below ys m h.1) h.0 (ap (Gives (Says w) zs u) h.2)
@@ -172,8 +172,8 @@ module _ {L E P V S F : Type 0} (l : Ghosts L E P V S F) (budget : ℕ) where
     pub evaluates_once : (xs : List (Item E P)) (s : S) (n : ℕ) (r r' : Resumed F) (ys ys' : List (Item E P)) (t t' : S) (m m' : ℕ) → Evaluates l budget xs s n r ys t m → Evaluates l budget xs s n r' ys' t' m' → (r ≡ r') × (ys ≡ ys') × (t ≡ t') × (m ≡ m')
     evaluates_once xs s n r r' ys ys' t t' m m' a b =
         let h = same_head xs s n r r' ys ys' t t' m m' a b in
-        let x : Gives r ys t m ≡ out_of (limit a.head a.count) (rewrite l a.head a.store) a.head a.store a.count = out r a.head a.store a.count ys t m a.answered in
-        let y : Gives r' ys' t' m' ≡ out_of (limit b.head b.count) (rewrite l b.head b.store) b.head b.store b.count = out r' b.head b.store b.count ys' t' m' b.answered in
-        let z : out_of (limit a.head a.count) (rewrite l a.head a.store) a.head a.store a.count ≡ out_of (limit b.head b.count) (rewrite l b.head b.store) b.head b.store b.count = ap (λ i. out_of (limit i a.count) (rewrite l i a.store) i a.store a.count) h.items ∙ ap (λ i. out_of (limit b.head a.count) (rewrite l b.head i) b.head i a.count) h.store ∙ ap (λ i. out_of (limit b.head i) (rewrite l b.head b.store) b.head b.store i) h.count in
+        let x : Gives r ys t m ≡ out_of (limit a.head a.count) (rewriting l a.head a.store) a.head a.store a.count = out r a.head a.store a.count ys t m a.answered in
+        let y : Gives r' ys' t' m' ≡ out_of (limit b.head b.count) (rewriting l b.head b.store) b.head b.store b.count = out r' b.head b.store b.count ys' t' m' b.answered in
+        let z : out_of (limit a.head a.count) (rewriting l a.head a.store) a.head a.store a.count ≡ out_of (limit b.head b.count) (rewriting l b.head b.store) b.head b.store b.count = ap (λ i. out_of (limit i a.count) (rewriting l i a.store) i a.store a.count) h.items ∙ ap (λ i. out_of (limit b.head a.count) (rewriting l b.head i) b.head i a.count) h.store ∙ ap (λ i. out_of (limit b.head i) (rewriting l b.head b.store) b.head b.store i) h.count in
         let w : Gives r ys t m ≡ Gives r' ys' t' m' = x ∙ z ∙ sym y in
         (cc, cc, cc, cc)
