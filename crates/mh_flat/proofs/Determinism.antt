@@ -1,11 +1,11 @@
--- An evaluation has one answer, and leaves one thing, where no fault is want of memory.
+-- An evaluation has one answer, and leaves one thing, want of memory aside.
 use Rattle.std.proofs.Common.{◌≡◌, ℕ, ◌+◌, ◌-◌, ◌<◌, ◌≤◌, Bool, true, false, cond, List, [], ◌∷◌, refl, sym, ap, ◌∙◌, subst, arith, inl, inr}
 use Rattle.std.specs.Prelude.{Result, Ok, Err, nat_lt}
 use Rattle.std.proofs.lemmas.Bool.{ltb-true, lt-ltb}
 use Rattle.mh_flat.specs.declared.lang.Lang.{Ghosts}
 use Rattle.mh_flat.specs.declared.step.Resumed.{Resumed}
 use Rattle.mh_flat.specs.declared.step.Resumed.TheVariants.{Waits, Says, Stopped, Ended, CheckFailed, Fault, TurnLimit}
-use Rattle.mh_flat.specs.Flow.{Item, SetStatement, IfStatement, WhileStatement, CountStatement, WaitStatement, SayStatement, CheckStatement, StopStatement, BreakStatement, ContinueStatement, Pending, BegunWhile, BegunCount, Outcome, Proceeds, Halts, Fails, Ends, with_value, rewriting, does_count, Reaches, here, onward, Answers, FailsAt, Evaluates}
+use Rattle.mh_flat.specs.Flow.{Item, SetStatement, IfStatement, WhileStatement, CountStatement, WaitStatement, SayStatement, CheckStatement, StopStatement, BreakStatement, ContinueStatement, Pending, BegunWhile, BegunCount, Outcome, Proceeds, Halts, Fails, Ends, with_value, rewriting, does_count, Reaches, here, onward, Answers, FailsAt, Evaluates, IsNoMemory}
 
 module _ {L E P V S F : Type 0} (l : Ghosts L E P V S F) (budget : ℕ) where
   -- the same rewritings, from the first on
@@ -120,60 +120,59 @@ module _ {L E P V S F : Type 0} (l : Ghosts L E P V S F) (budget : ℕ) where
   gives ys t m b v o eb ev h =
       h ∙ ap (λ x. out_of x v ys t m) (sym eb) ∙ ap (λ x. out_of (limit ys m) x ys t m) (sym ev)
 
-  module _ (no_memory : (f : F) → l.is_memory f ≡ false) where
-    fails_is : (ys : List (Item E P)) (t : S) (k : ℕ) (f : F) → FailsAt l budget ys t k f → rewriting l ys t ≡ Fails k f
-    fails_is [] t k f h = h
-    fails_is (Pending i (SetStatement p e) ∷ rest) t k f (inl h) = h
-    fails_is (Pending i (SetStatement p e) ∷ rest) t k f (inr h) = let e0 : true ≡ false = sym h.1 ∙ no_memory f in cc
-    fails_is (Pending i (IfStatement e a b) ∷ rest) t k f h = h
-    fails_is (Pending i (WhileStatement e b) ∷ rest) t k f h = h
-    fails_is (Pending i (CountStatement p x y z b) ∷ rest) t k f h = h
-    fails_is (Pending i (WaitStatement w) ∷ rest) t k f h = h
-    fails_is (Pending i (SayStatement w) ∷ rest) t k f h = h
-    fails_is (Pending i (CheckStatement e) ∷ rest) t k f h = h
-    fails_is (Pending i StopStatement ∷ rest) t k f h = h
-    fails_is (Pending i BreakStatement ∷ rest) t k f h = h
-    fails_is (Pending i ContinueStatement ∷ rest) t k f h = h
-    fails_is (BegunWhile i e b ∷ rest) t k f h = h
-    fails_is (BegunCount i p n z d b ∷ rest) t k f h = h
+  fails_is : (ys : List (Item E P)) (t : S) (k : ℕ) (f : F) → l.is_memory f ≡ false → FailsAt l budget ys t k f → rewriting l ys t ≡ Fails k f
+  fails_is [] t k f none h = h
+  fails_is (Pending i (SetStatement p e) ∷ rest) t k f none (inl h) = h
+  fails_is (Pending i (SetStatement p e) ∷ rest) t k f none (inr h) = let e0 : true ≡ false = sym h.1 ∙ none in cc
+  fails_is (Pending i (IfStatement e a b) ∷ rest) t k f none h = h
+  fails_is (Pending i (WhileStatement e b) ∷ rest) t k f none h = h
+  fails_is (Pending i (CountStatement p x y z b) ∷ rest) t k f none h = h
+  fails_is (Pending i (WaitStatement w) ∷ rest) t k f none h = h
+  fails_is (Pending i (SayStatement w) ∷ rest) t k f none h = h
+  fails_is (Pending i (CheckStatement e) ∷ rest) t k f none h = h
+  fails_is (Pending i StopStatement ∷ rest) t k f none h = h
+  fails_is (Pending i BreakStatement ∷ rest) t k f none h = h
+  fails_is (Pending i ContinueStatement ∷ rest) t k f none h = h
+  fails_is (BegunWhile i e b ∷ rest) t k f none h = h
+  fails_is (BegunCount i p n z d b ∷ rest) t k f none h = h
 
-    over : (r : Resumed F) (ys : List (Item E P)) (t : S) (m : ℕ) (ys' : List (Item E P)) (t' : S) (m' : ℕ) → Answers l budget r ys t m ys' t' m' → IsOver ys t m
-    over (Waits w) ys t m ys' t' m' h = λ k zs u e le. let x : Halts 0 (Waits w) ys' t' ≡ Proceeds k zs u = sym h.0 ∙ e in cc
-    over (Says w) ys t m ys' t' m' h = λ k zs u e le. let x : Halts 1 (Says w) ys' t' ≡ Proceeds k zs u = sym h.0 ∙ e in cc
-    over Stopped ys t m ys' t' m' h = λ k zs u e le. let x : Halts 1 Stopped ys' t' ≡ Proceeds k zs u = sym h.0 ∙ e in cc
-    over (CheckFailed w) ys t m ys' t' m' h = λ k zs u e le. let x : Halts 1 (CheckFailed w) ys' t' ≡ Proceeds k zs u = sym h.0 ∙ e in cc
-    over Ended ys t m ys' t' m' h = λ k zs u e le. let x : Ends ≡ Proceeds k zs u = sym h.0 ∙ e in cc
-    over (Fault i f) ys t m ys' t' m' h = λ k zs u e le. let x : Fails i f ≡ Proceeds k zs u = sym (fails_is ys t i f h.1) ∙ e in cc
-    over TurnLimit ys t m ys' t' m' h = λ k zs u e le. let x : k ≡ 1 = sym (ap move_counts e) ∙ counted ys t h.0 in absurd (omega (arith, x, le, h.1))
+  over : (r : Resumed F) (ys : List (Item E P)) (t : S) (m : ℕ) (ys' : List (Item E P)) (t' : S) (m' : ℕ) → IsNoMemory l r → Answers l budget r ys t m ys' t' m' → IsOver ys t m
+  over (Waits w) ys t m ys' t' m' none h = λ k zs u e le. let x : Halts 0 (Waits w) ys' t' ≡ Proceeds k zs u = sym h.0 ∙ e in cc
+  over (Says w) ys t m ys' t' m' none h = λ k zs u e le. let x : Halts 1 (Says w) ys' t' ≡ Proceeds k zs u = sym h.0 ∙ e in cc
+  over Stopped ys t m ys' t' m' none h = λ k zs u e le. let x : Halts 1 Stopped ys' t' ≡ Proceeds k zs u = sym h.0 ∙ e in cc
+  over (CheckFailed w) ys t m ys' t' m' none h = λ k zs u e le. let x : Halts 1 (CheckFailed w) ys' t' ≡ Proceeds k zs u = sym h.0 ∙ e in cc
+  over Ended ys t m ys' t' m' none h = λ k zs u e le. let x : Ends ≡ Proceeds k zs u = sym h.0 ∙ e in cc
+  over (Fault i f) ys t m ys' t' m' none h = λ k zs u e le. let x : Fails i f ≡ Proceeds k zs u = sym (fails_is ys t i f none h.1) ∙ e in cc
+  over TurnLimit ys t m ys' t' m' none h = λ k zs u e le. let x : k ≡ 1 = sym (ap move_counts e) ∙ counted ys t h.0 in absurd (omega (arith, x, le, h.1))
 
-    stays : (r : Resumed F) (ys : List (Item E P)) (t : S) (m : ℕ) (zs : List (Item E P)) (u : S) (p : ℕ) → (zs ≡ ys) × (u ≡ t) × (p ≡ m) → Gives r zs u p ≡ Gives r ys t m
-    stays r ys t m zs u p h = ap (λ x. Gives r x u p) h.0 ∙ ap (λ x. Gives r ys x p) h.1 ∙ ap (Gives r ys t) h.2
+  stays : (r : Resumed F) (ys : List (Item E P)) (t : S) (m : ℕ) (zs : List (Item E P)) (u : S) (p : ℕ) → (zs ≡ ys) × (u ≡ t) × (p ≡ m) → Gives r zs u p ≡ Gives r ys t m
+  stays r ys t m zs u p h = ap (λ x. Gives r x u p) h.0 ∙ ap (λ x. Gives r ys x p) h.1 ∙ ap (Gives r ys t) h.2
 
-    -- what is left at the end, and how it counts, is the same in two evaluations
-    pub same_head : (xs : List (Item E P)) (s : S) (n : ℕ) (r r' : Resumed F) (ys ys' : List (Item E P)) (t t' : S) (m m' : ℕ) (a : Evaluates l budget xs s n r ys t m) (b : Evaluates l budget xs s n r' ys' t' m') → Same a.head a.store a.count b.head b.store b.count
-    same_head xs s n r r' ys ys' t t' m m' a b =
-        meets (forth a.reached) (forth b.reached) (over r a.head a.store a.count ys t m a.answered) (over r' b.head b.store b.count ys' t' m' b.answered)
+  -- what is left at the end, and how it counts, is the same in two evaluations
+  pub same_head : (xs : List (Item E P)) (s : S) (n : ℕ) (r r' : Resumed F) (ys ys' : List (Item E P)) (t t' : S) (m m' : ℕ) → IsNoMemory l r → IsNoMemory l r' → (a : Evaluates l budget xs s n r ys t m) (b : Evaluates l budget xs s n r' ys' t' m') → Same a.head a.store a.count b.head b.store b.count
+  same_head xs s n r r' ys ys' t t' m m' none none' a b =
+      meets (forth a.reached) (forth b.reached) (over r a.head a.store a.count ys t m none a.answered) (over r' b.head b.store b.count ys' t' m' none' b.answered)
 
-    out : (r : Resumed F) (ys : List (Item E P)) (t : S) (m : ℕ) (zs : List (Item E P)) (u : S) (p : ℕ) → Answers l budget r ys t m zs u p → Gives r zs u p ≡ out_of (limit ys m) (rewriting l ys t) ys t m
-    out (Waits w) ys t m zs u p h =
-        gives ys t m false _ _ (uncounted ys t m (λ e. let x : 0 ≡ 1 = sym (ap move_counts h.0) ∙ e in omega arith)) h.0 (ap (Gives (Waits w) zs u) h.1)
-    out (Says w) ys t m zs u p h = gives ys t m false _ _ (below ys m h.1) h.0 (ap (Gives (Says w) zs u) h.2)
-    out Stopped ys t m zs u p h = gives ys t m false _ _ (below ys m h.1) h.0 (ap (Gives Stopped zs u) h.2)
-    out (CheckFailed w) ys t m zs u p h =
-        gives ys t m false _ _ (below ys m h.1) h.0 (ap (Gives (CheckFailed w) zs u) h.2)
-    out Ended ys t m zs u p h =
-        gives ys t m false _ _ (uncounted ys t m (λ e. let x : 0 ≡ 1 = sym (ap move_counts h.0) ∙ e in omega arith)) h.0 (stays Ended ys t m zs u p h.1)
-    out (Fault k f) ys t m zs u p h =
-        gives ys t m false _ _ (below ys m h.0) (fails_is ys t k f h.1) (stays (Fault k f) ys t m zs u p h.2)
-    out TurnLimit ys t m zs u p h =
-        gives ys t m true _ _ (reached ys m h.0 h.1) refl (stays TurnLimit ys t m zs u p h.2)
+  out : (r : Resumed F) (ys : List (Item E P)) (t : S) (m : ℕ) (zs : List (Item E P)) (u : S) (p : ℕ) → IsNoMemory l r → Answers l budget r ys t m zs u p → Gives r zs u p ≡ out_of (limit ys m) (rewriting l ys t) ys t m
+  out (Waits w) ys t m zs u p none h =
+      gives ys t m false _ _ (uncounted ys t m (λ e. let x : 0 ≡ 1 = sym (ap move_counts h.0) ∙ e in omega arith)) h.0 (ap (Gives (Waits w) zs u) h.1)
+  out (Says w) ys t m zs u p none h = gives ys t m false _ _ (below ys m h.1) h.0 (ap (Gives (Says w) zs u) h.2)
+  out Stopped ys t m zs u p none h = gives ys t m false _ _ (below ys m h.1) h.0 (ap (Gives Stopped zs u) h.2)
+  out (CheckFailed w) ys t m zs u p none h =
+      gives ys t m false _ _ (below ys m h.1) h.0 (ap (Gives (CheckFailed w) zs u) h.2)
+  out Ended ys t m zs u p none h =
+      gives ys t m false _ _ (uncounted ys t m (λ e. let x : 0 ≡ 1 = sym (ap move_counts h.0) ∙ e in omega arith)) h.0 (stays Ended ys t m zs u p h.1)
+  out (Fault k f) ys t m zs u p none h =
+      gives ys t m false _ _ (below ys m h.0) (fails_is ys t k f none h.1) (stays (Fault k f) ys t m zs u p h.2)
+  out TurnLimit ys t m zs u p none h =
+      gives ys t m true _ _ (reached ys m h.0 h.1) refl (stays TurnLimit ys t m zs u p h.2)
 
-    -- An evaluation has one answer, and leaves one thing.
-    pub evaluates_once : (xs : List (Item E P)) (s : S) (n : ℕ) (r r' : Resumed F) (ys ys' : List (Item E P)) (t t' : S) (m m' : ℕ) → Evaluates l budget xs s n r ys t m → Evaluates l budget xs s n r' ys' t' m' → (r ≡ r') × (ys ≡ ys') × (t ≡ t') × (m ≡ m')
-    evaluates_once xs s n r r' ys ys' t t' m m' a b =
-        let h = same_head xs s n r r' ys ys' t t' m m' a b in
-        let x : Gives r ys t m ≡ out_of (limit a.head a.count) (rewriting l a.head a.store) a.head a.store a.count = out r a.head a.store a.count ys t m a.answered in
-        let y : Gives r' ys' t' m' ≡ out_of (limit b.head b.count) (rewriting l b.head b.store) b.head b.store b.count = out r' b.head b.store b.count ys' t' m' b.answered in
-        let z : out_of (limit a.head a.count) (rewriting l a.head a.store) a.head a.store a.count ≡ out_of (limit b.head b.count) (rewriting l b.head b.store) b.head b.store b.count = ap (λ i. out_of (limit i a.count) (rewriting l i a.store) i a.store a.count) h.items ∙ ap (λ i. out_of (limit b.head a.count) (rewriting l b.head i) b.head i a.count) h.store ∙ ap (λ i. out_of (limit b.head i) (rewriting l b.head b.store) b.head b.store i) h.count in
-        let w : Gives r ys t m ≡ Gives r' ys' t' m' = x ∙ z ∙ sym y in
-        (cc, cc, cc, cc)
+  -- An evaluation has one answer, and leaves one thing.
+  pub evaluates_once : (xs : List (Item E P)) (s : S) (n : ℕ) (r r' : Resumed F) (ys ys' : List (Item E P)) (t t' : S) (m m' : ℕ) → IsNoMemory l r → IsNoMemory l r' → Evaluates l budget xs s n r ys t m → Evaluates l budget xs s n r' ys' t' m' → (r ≡ r') × (ys ≡ ys') × (t ≡ t') × (m ≡ m')
+  evaluates_once xs s n r r' ys ys' t t' m m' none none' a b =
+      let h = same_head xs s n r r' ys ys' t t' m m' none none' a b in
+      let x : Gives r ys t m ≡ out_of (limit a.head a.count) (rewriting l a.head a.store) a.head a.store a.count = out r a.head a.store a.count ys t m none a.answered in
+      let y : Gives r' ys' t' m' ≡ out_of (limit b.head b.count) (rewriting l b.head b.store) b.head b.store b.count = out r' b.head b.store b.count ys' t' m' none' b.answered in
+      let z : out_of (limit a.head a.count) (rewriting l a.head a.store) a.head a.store a.count ≡ out_of (limit b.head b.count) (rewriting l b.head b.store) b.head b.store b.count = ap (λ i. out_of (limit i a.count) (rewriting l i a.store) i a.store a.count) h.items ∙ ap (λ i. out_of (limit b.head a.count) (rewriting l b.head i) b.head i a.count) h.store ∙ ap (λ i. out_of (limit b.head i) (rewriting l b.head b.store) b.head b.store i) h.count in
+      let w : Gives r ys t m ≡ Gives r' ys' t' m' = x ∙ z ∙ sym y in
+      (cc, cc, cc, cc)

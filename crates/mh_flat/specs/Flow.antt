@@ -1,18 +1,22 @@
--- What is left of a body, and how it is carried out: one rewriting at a time.
+-- The flow of control, apart from the code: what is left of a body is a list of items, and one
+-- rewriting takes the head of the list away and puts others in its place where needed. These are this
+-- project's own rules; the generators of the source and the processes of both texts all run by them.
+--
+-- E, P, V, S and F are the expressions, places, values, stores and faults of a language.
 use Rattle.std.specs.Prelude.{ℕ, ℤ, pos, ◌+◌, ◌-◌, ◌<◌, ◌≤◌, ◌+ℤ◌, Bool, true, false, List, [], ◌∷◌, ◌≡◌, Result, Ok, Err, cond, ◌⊎◌, IsTrue, int_lt}
 use Rattle.mh_flat.specs.declared.lang.Lang.{Ghosts}
 use Rattle.mh_flat.specs.declared.step.Resumed.{Resumed}
 use Rattle.mh_flat.specs.declared.step.Resumed.TheVariants.{Waits, Says, Stopped, Ended, CheckFailed, Fault, TurnLimit}
 
--- The statements of a body.
+-- The statements of a body, one for each variant of `Step`, and blocks of them.
 mutual
   pub data Statement (E P : Type 0) : Type 0 where
     SetStatement : (place : P) (value : E) → Statement E P
-    IfStatement : (test : E) (yes no : Block E P) → Statement E P
+    IfStatement : (test : E) (then_part else_part : Block E P) → Statement E P
     WhileStatement : (test : E) (body : Block E P) → Statement E P
-    CountStatement : (variable : P) (from to step : E) (body : Block E P) → Statement E P
-    WaitStatement : (what : ℕ) → Statement E P
-    SayStatement : (what : ℕ) → Statement E P
+    CountStatement : (place : P) (from to step : E) (body : Block E P) → Statement E P
+    WaitStatement : (number : ℕ) → Statement E P
+    SayStatement : (number : ℕ) → Statement E P
     CheckStatement : (test : E) → Statement E P
     StopStatement : Statement E P
     BreakStatement : Statement E P
@@ -22,125 +26,139 @@ mutual
     End : Block E P
     Then : Statement E P → Block E P → Block E P
 
--- How many statements there are, with those that they hold.
+-- How many statements a statement or a block is, with those that it holds.
 abbrev mutual
   pub size : {E P : Type 0} → Statement E P → ℕ
-  size (SetStatement p e) = 1
-  size (IfStatement e a b) = 1 + block_size a + block_size b
-  size (WhileStatement e b) = 1 + block_size b
-  size (CountStatement p a z d b) = 1 + block_size b
-  size (WaitStatement w) = 1
-  size (SayStatement w) = 1
-  size (CheckStatement e) = 1
+  size (SetStatement place value) = 1
+  size (IfStatement test then_part else_part) = 1 + block_size then_part + block_size else_part
+  size (WhileStatement test body) = 1 + block_size body
+  size (CountStatement place from to step body) = 1 + block_size body
+  size (WaitStatement number) = 1
+  size (SayStatement number) = 1
+  size (CheckStatement test) = 1
   size StopStatement = 1
   size BreakStatement = 1
   size ContinueStatement = 1
 
   pub block_size : {E P : Type 0} → Block E P → ℕ
   block_size End = 0
-  block_size (Then s b) = size s + block_size b
+  block_size (Then statement block) = size statement + block_size block
 
--- What is left: statements, and loops that have begun, each with its place in order of text.
+-- What is left of a body: statements that haven't begun, and loops that have. Each has its place in order
+-- of text, from 0, where a statement stands before those that it holds. A counted loop that has begun has
+-- its next number, and the numbers of its limit and its step: these three expressions are evaluated once,
+-- before the loop.
 pub data Item (E P : Type 0) : Type 0 where
   Pending : (at : ℕ) → Statement E P → Item E P
   BegunWhile : (at : ℕ) (test : E) (body : Block E P) → Item E P
-  BegunCount : (at : ℕ) (variable : P) (next to step : ℤ) (body : Block E P) → Item E P
+  BegunCount : (at : ℕ) (place : P) (next to step : ℤ) (body : Block E P) → Item E P
 
--- the statements of a block whose first has the place k, and then the rest
+-- The statements of a block, the first of which has the given place, and then the rest.
 abbrev pub block_items : {E P : Type 0} → ℕ → Block E P → List (Item E P) → List (Item E P)
-block_items k End rest = rest
-block_items k (Then s b) rest = Pending k s ∷ block_items (k + size s) b rest
+block_items at End rest = rest
+block_items at (Then statement block) rest = Pending at statement ∷ block_items (at + size statement) block rest
 
--- what is left behind the first loop that has begun
+-- A `Break` drops all up to and including the first loop that has begun, and all where none has.
 abbrev pub after_loop : {E P : Type 0} → List (Item E P) → List (Item E P)
 after_loop [] = []
-after_loop (Pending k s ∷ rest) = after_loop rest
-after_loop (BegunWhile k e b ∷ rest) = rest
-after_loop (BegunCount k p n z d b ∷ rest) = rest
+after_loop (Pending at statement ∷ rest) = after_loop rest
+after_loop (BegunWhile at test body ∷ rest) = rest
+after_loop (BegunCount at place next to step body ∷ rest) = rest
 
--- what is left from the first loop on that has begun
+-- A `Continue` drops all before the first loop that has begun, and all where none has.
 abbrev pub from_loop : {E P : Type 0} → List (Item E P) → List (Item E P)
 from_loop [] = []
-from_loop (Pending k s ∷ rest) = from_loop rest
-from_loop (BegunWhile k e b ∷ rest) = BegunWhile k e b ∷ rest
-from_loop (BegunCount k p n z d b ∷ rest) = BegunCount k p n z d b ∷ rest
+from_loop (Pending at statement ∷ rest) = from_loop rest
+from_loop (BegunWhile at test body ∷ rest) = BegunWhile at test body ∷ rest
+from_loop (BegunCount at place next to step body ∷ rest) = BegunCount at place next to step body ∷ rest
 
--- whether n stands before z in the direction of d
+-- Whether a number stands before a limit in the direction of a step. With step 0 none does.
 abbrev pub is_before : ℤ → ℤ → ℤ → Bool
-is_before n z d = cond (int_lt (pos 0) d) (int_lt n z) (cond (int_lt d (pos 0)) (int_lt z n) false)
+is_before number limit step =
+    cond (int_lt (pos 0) step) (int_lt number limit) (cond (int_lt step (pos 0)) (int_lt limit number) false)
 
--- What one rewriting does: it goes on, it stops with an answer, it meets a fault, or nothing was left.
--- The number is 1 where it counts as a statement, else 0.
+-- What one rewriting does: it goes on with a list and a store, it halts with an answer, it fails with a
+-- fault at a place, or nothing was left. The number is 1 where the rewriting is a counted statement, else 0.
 pub data Outcome (E P S F : Type 0) : Type 0 where
   Proceeds : (counts : ℕ) → List (Item E P) → S → Outcome E P S F
   Halts : (counts : ℕ) → Resumed F → List (Item E P) → S → Outcome E P S F
   Fails : (at : ℕ) → F → Outcome E P S F
   Ends : Outcome E P S F
 
--- goes on with a value, or fails at this place
+-- Goes on with a value, or fails at this place.
 abbrev pub with_value : {A E P S F : Type 0} → ℕ → Result A F → (A → Outcome E P S F) → Outcome E P S F
-with_value k (Ok x) go = go x
-with_value k (Err f) go = Fails k f
+with_value at (Ok value) next = next value
+with_value at (Err fault) next = Fails at fault
 
 module _ {L E P V S F : Type 0} (l : Ghosts L E P V S F) where
-  -- a loop's test, and then a turn or what follows
+  -- A loop over a condition, begun or not: its body followed by the begun loop where the test holds, and
+  -- nothing elsewhere. Each test counts.
   abbrev pub while_turn : ℕ → E → Block E P → List (Item E P) → S → Outcome E P S F
-  while_turn k e b rest s =
-      with_value k (l.value_of e s) (λ v. Proceeds 1 (cond (l.is_true v) (block_items (k + 1) b (BegunWhile k e b ∷ rest)) rest) s)
+  while_turn at test body rest store =
+      with_value at (l.value_of test store) (λ value. Proceeds 1 (cond (l.is_true value) (block_items (at + 1) body (BegunWhile at test body ∷ rest)) rest) store)
 
-  -- a range's next number, or what follows
+  -- A counted loop that has begun: its place takes the next number, and its body follows, and then the loop
+  -- with the number after that one. The numbers are mathematical ones. Each turn counts; where the next
+  -- number doesn't stand before the limit, the loop is dropped, which counts nothing.
   abbrev pub count_turn : ℕ → P → ℤ → ℤ → ℤ → Block E P → List (Item E P) → S → Outcome E P S F
-  count_turn k p n z d b rest s =
-      cond (is_before n z d) (Proceeds 1 (block_items (k + 1) b (BegunCount k p (n +ℤ d) z d b ∷ rest)) (l.counted p n s)) (Proceeds 0 rest s)
+  count_turn at place next to step body rest store =
+      cond (is_before next to step) (Proceeds 1 (block_items (at + 1) body (BegunCount at place (next +ℤ step) to step body ∷ rest)) (l.counted place next store)) (Proceeds 0 rest store)
 
-  -- one statement
+  -- A statement that hasn't begun. Each counts but a wait.
   abbrev pub statement_outcome : ℕ → Statement E P → List (Item E P) → S → Outcome E P S F
-  statement_outcome k (SetStatement p e) rest s = with_value k (l.value_of e s) (λ v. with_value k (l.assigned p v s) (λ s'. Proceeds 1 rest s'))
-  statement_outcome k (IfStatement e a b) rest s =
-      with_value k (l.value_of e s) (λ v. Proceeds 1 (cond (l.is_true v) (block_items (k + 1) a rest) (block_items (k + 1 + block_size a) b rest)) s)
-  statement_outcome k (WhileStatement e b) rest s = while_turn k e b rest s
-  statement_outcome k (CountStatement p a z d b) rest s =
-      with_value k (l.value_of a s) (λ x. with_value k (l.value_of z s) (λ y. with_value k (l.value_of d s) (λ w. Proceeds 1 (BegunCount k p (l.number_of x) (l.number_of y) (l.number_of w) b ∷ rest) s)))
-  statement_outcome k (WaitStatement w) rest s = Halts 0 (Waits w) rest s
-  statement_outcome k (SayStatement w) rest s = Halts 1 (Says w) rest s
-  statement_outcome k (CheckStatement e) rest s =
-      with_value k (l.value_of e s) (λ v. cond (l.is_true v) (Proceeds 1 rest s) (Halts 1 (CheckFailed k) rest s))
-  statement_outcome k StopStatement rest s = Halts 1 Stopped rest s
-  statement_outcome k BreakStatement rest s = Proceeds 1 (after_loop rest) s
-  statement_outcome k ContinueStatement rest s = Proceeds 1 (from_loop rest) s
+  statement_outcome at (SetStatement place expression) rest store =
+      with_value at (l.value_of expression store) (λ value. with_value at (l.assigned place value store) (λ new. Proceeds 1 rest new))
+  statement_outcome at (IfStatement test then_part else_part) rest store =
+      with_value at (l.value_of test store) (λ value. Proceeds 1 (cond (l.is_true value) (block_items (at + 1) then_part rest) (block_items (at + 1 + block_size then_part) else_part rest)) store)
+  statement_outcome at (WhileStatement test body) rest store = while_turn at test body rest store
+  statement_outcome at (CountStatement place from to step body) rest store =
+      with_value at (l.value_of from store) (λ x. with_value at (l.value_of to store) (λ y. with_value at (l.value_of step store) (λ z. Proceeds 1 (BegunCount at place (l.number_of x) (l.number_of y) (l.number_of z) body ∷ rest) store)))
+  statement_outcome at (WaitStatement number) rest store = Halts 0 (Waits number) rest store
+  statement_outcome at (SayStatement number) rest store = Halts 1 (Says number) rest store
+  statement_outcome at (CheckStatement test) rest store =
+      with_value at (l.value_of test store) (λ value. cond (l.is_true value) (Proceeds 1 rest store) (Halts 1 (CheckFailed at) rest store))
+  statement_outcome at StopStatement rest store = Halts 1 Stopped rest store
+  statement_outcome at BreakStatement rest store = Proceeds 1 (after_loop rest) store
+  statement_outcome at ContinueStatement rest store = Proceeds 1 (from_loop rest) store
 
-  -- one rewriting
+  -- One rewriting of what is left, in a store.
   abbrev pub rewriting : List (Item E P) → S → Outcome E P S F
-  rewriting [] s = Ends
-  rewriting (Pending k t ∷ rest) s = statement_outcome k t rest s
-  rewriting (BegunWhile k e b ∷ rest) s = while_turn k e b rest s
-  rewriting (BegunCount k p n z d b ∷ rest) s = count_turn k p n z d b rest s
+  rewriting [] store = Ends
+  rewriting (Pending at statement ∷ rest) store = statement_outcome at statement rest store
+  rewriting (BegunWhile at test body ∷ rest) store = while_turn at test body rest store
+  rewriting (BegunCount at place next to step body ∷ rest) store =
+      count_turn at place next to step body rest store
 
--- whether the head is something that counts
+-- Whether the next rewriting is a counted statement, whatever the store is.
 abbrev pub does_count : {E P : Type 0} → List (Item E P) → Bool
 does_count [] = false
-does_count (Pending k (WaitStatement w) ∷ rest) = false
-does_count (BegunCount k p n z d b ∷ rest) = is_before n z d
-does_count (x ∷ rest) = true
+does_count (Pending at (WaitStatement number) ∷ rest) = false
+does_count (BegunCount at place next to step body ∷ rest) = is_before next to step
+does_count (item ∷ rest) = true
 
 module _ {L E P V S F : Type 0} (l : Ghosts L E P V S F) (budget : ℕ) where
   -- Rewritings that follow one another lead from what is left, a store and a count of statements to others.
-  -- A rewriting that counts is done only while the count is below the budget.
+  -- A rewriting that counts is done only while the count is below the budget, one that doesn't at any count.
   pub data Reaches (xs : List (Item E P)) (s : S) (n : ℕ) : List (Item E P) → S → ℕ → Type 0 where
     here : Reaches xs s n xs s n
     onward : {ys zs : List (Item E P)} {t u : S} {m k : ℕ} → Reaches xs s n ys t m → rewriting l ys t ≡ Proceeds k zs u → k ≤ budget - m → Reaches xs s n zs u (m + k)
 
-  -- nothing has changed
+  -- What is left, the store and the count are as they were.
   abbrev pub Stays : List (Item E P) → S → ℕ → List (Item E P) → S → ℕ → Type 0
   Stays xs s n ys t m = (ys ≡ xs) × (t ≡ s) × (m ≡ n)
 
-  -- a fault of the head, or want of memory where the head assigns
+  -- The next rewriting fails with this fault at this place. Want of memory may also come, at the place of an
+  -- assignment alone, where the rewriting doesn't fail.
   abbrev pub FailsAt : List (Item E P) → S → ℕ → F → Type 0
   FailsAt (Pending k (SetStatement p e) ∷ rest) s at f =
       (rewriting l (Pending k (SetStatement p e) ∷ rest) s ≡ Fails at f) ⊎ ((at ≡ k) × IsTrue (l.is_memory f))
   FailsAt xs s at f = rewriting l xs s ≡ Fails at f
 
-  -- the answer at what is left, and what is left after it
+  -- The answer at what is left (xs, in the store s, with the count n), and what is left after it (ys, t, m).
+  -- A wait is answered at any count and sets it back. `Says`, `Stopped` and `CheckFailed` count their
+  -- statement, which is taken away. At the end, after a fault and at the limit all stays: the statement that
+  -- was met is still the first. The limit comes where the count has reached the budget and a counted
+  -- statement comes, and there nothing else does.
   abbrev pub Answers : Resumed F → List (Item E P) → S → ℕ → List (Item E P) → S → ℕ → Type 0
   Answers (Waits w) xs s n ys t m = (rewriting l xs s ≡ Halts 0 (Waits w) ys t) × (m ≡ 0)
   Answers Ended xs s n ys t m = (rewriting l xs s ≡ Ends) × Stays xs s n ys t m
@@ -148,7 +166,7 @@ module _ {L E P V S F : Type 0} (l : Ghosts L E P V S F) (budget : ℕ) where
   Answers TurnLimit xs s n ys t m = (does_count xs ≡ true) × (budget ≤ n) × Stays xs s n ys t m
   Answers r xs s n ys t m = (rewriting l xs s ≡ Halts 1 r ys t) × (n < budget) × (m ≡ n + 1)
 
-  -- An evaluation: rewritings up to the next stop, and its answer.
+  -- An evaluation: rewritings up to the next stop, and its answer there.
   pub record Evaluates (xs : List (Item E P)) (s : S) (n : ℕ) (r : Resumed F) (ys : List (Item E P)) (t : S) (m : ℕ) : Type 0 where
     pub head : List (Item E P)
     pub store : S
@@ -156,7 +174,7 @@ module _ {L E P V S F : Type 0} (l : Ghosts L E P V S F) (budget : ℕ) where
     pub reached : Reaches xs s n head store count
     pub answered : Answers r head store count ys t m
 
-  -- there is an evaluation from here
+  -- There is an evaluation of what is left, in a store and with a count.
   pub record HasEvaluation (xs : List (Item E P)) (s : S) (n : ℕ) : Type 0 where
     pub answer : Resumed F
     pub items : List (Item E P)
@@ -164,11 +182,17 @@ module _ {L E P V S F : Type 0} (l : Ghosts L E P V S F) (budget : ℕ) where
     pub count : ℕ
     pub evaluation : Evaluates xs s n answer items store count
 
-  -- rewritings one after another
+  -- Runs of rewritings compose.
   pub reaches_on : {xs : List (Item E P)} {s : S} {n : ℕ} {ys : List (Item E P)} {t : S} {m : ℕ} {zs : List (Item E P)} {u : S} {p : ℕ} → Reaches xs s n ys t m → Reaches ys t m zs u p → Reaches xs s n zs u p
   reaches_on a here = a
   reaches_on a (onward r e le) = onward (reaches_on a r) e le
 
-  -- a statement that goes on, and then the rest of its block
+  -- One rewriting is a run.
   pub reaches_once : {xs : List (Item E P)} {s : S} {n : ℕ} {ys : List (Item E P)} {t : S} {k : ℕ} → rewriting l xs s ≡ Proceeds k ys t → k ≤ budget - n → Reaches xs s n ys t (n + k)
   reaches_once e le = onward here e le
+
+module _ {L E P V S F : Type 0} (l : Ghosts L E P V S F) where
+  -- The answer isn't want of memory.
+  abbrev pub IsNoMemory : Resumed F → Type 0
+  IsNoMemory (Fault at f) = l.is_memory f ≡ false
+  IsNoMemory r = Unit {0}
