@@ -1,5 +1,8 @@
 -- A statement that holds others, by the list of those.
-use Rattle.std.proofs.Common.{◌≡◌, ◌+◌, ◌<◌, ◌≤◌, suc, max, arith, length, ℕ, List, [], ◌∷◌, refl, ap, ◌∙◌, Vec, Global}
+use Rattle.std.proofs.Common.{◌≡◌, ◌+◌, ◌<◌, ◌≤◌, suc, max, arith, length, ℕ, List, [], ◌∷◌, ◌++◌, refl, ap, ◌∙◌, Vec, Global}
+use Rattle.mh_flat.specs.declared.lang.Lang.{Ghosts}
+use Rattle.mh_flat.specs.Flow.{Item, Pending, BegunWhile, BegunCount}
+use Rattle.mh_flat.specs.Fits.{FitsStatement, FitsBlock, FitsItems}
 use Rattle.mh_flat.specs.declared.step.Step.{Step}
 use Rattle.mh_flat.specs.declared.step.Step.TheVariants.{If, While, Count}
 use Rattle.mh_flat.specs.Flow.{Statement, Block, SetStatement, IfStatement, WhileStatement, CountStatement, WaitStatement, SayStatement, CheckStatement, StopStatement, BreakStatement, ContinueStatement, End, Then, size, block_size}
@@ -52,3 +55,33 @@ mutual
   pub nestings_sizes : {E P : Type 0} (b : Block E P) → block_nesting b ≤ block_size b
   nestings_sizes End = omega arith
   nestings_sizes (Then t b) = omega (arith, nesting_size t, nestings_sizes b)
+
+-- the size of a list of statements with one more at its end
+pub size_last : {L E P V S F : Type 0} (xs : List (Step L E P V S F)) (x : Step L E P V S F) → block_size (block_of (xs ++ x ∷ [])) ≡ block_size (block_of xs) + size (statement_of x)
+size_last [] x = omega arith
+size_last (y ∷ xs) x = omega (arith, size_last xs x)
+
+-- where every expression and place fits every store, so does whatever is left
+module _ {L E P V S F : Type 0} (l : Ghosts L E P V S F) (expr : (e : E) (s : S) → l.fits_expr e s) (set : (p : P) (e : E) (s : S) → l.fits_set p e s) (count : (p : P) (s : S) → l.fits_count p s) where
+  mutual
+    fits_statement : (t : Statement E P) (s : S) → FitsStatement l t s
+    fits_statement (SetStatement p e) s = (expr e s, set p e s)
+    fits_statement (IfStatement e a b) s = (expr e s, fits_block a s, fits_block b s)
+    fits_statement (WhileStatement e b) s = (expr e s, fits_block b s)
+    fits_statement (CountStatement p x y z b) s = (expr x s, expr y s, expr z s, count p s, fits_block b s)
+    fits_statement (WaitStatement w) s = tt
+    fits_statement (SayStatement w) s = tt
+    fits_statement (CheckStatement e) s = expr e s
+    fits_statement StopStatement s = tt
+    fits_statement BreakStatement s = tt
+    fits_statement ContinueStatement s = tt
+
+    fits_block : (b : Block E P) (s : S) → FitsBlock l b s
+    fits_block End s = tt
+    fits_block (Then t b) s = (fits_statement t s, fits_block b s)
+
+  pub fits_any : (xs : List (Item E P)) (s : S) → FitsItems l xs s
+  fits_any [] s = tt
+  fits_any (Pending k t ∷ rest) s = (fits_statement t s, fits_any rest s)
+  fits_any (BegunWhile k e b ∷ rest) s = (expr e s, fits_block b s, fits_any rest s)
+  fits_any (BegunCount k p n z d b ∷ rest) s = (count p s, fits_block b s, fits_any rest s)

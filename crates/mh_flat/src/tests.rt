@@ -1,0 +1,285 @@
+ghost use Rattle.std.specs.Prelude.{◌≡◌, ℕ, ℤ, pos, negsuc, ◌+◌, ◌<◌, ◌≤◌, ◌%◌, ◌^◌, ◌==◌, Result, Ok, Err, cond, IfOk, length, slice_index_or, slice_set, int_lt};
+ghost use Rattle.mh_flat.specs.Flow.{size, block_size};
+ghost use Rattle.mh_flat.specs.Body.{statement_of, block_of};
+
+use super::*;
+use mh_text::Memory;
+use std::alloc::Global;
+use std::test::Fail;
+
+/// A small language over a table of four numbers.
+struct Numbers;
+
+/// The store: four numbers.
+#[derive(Clone, Copy)]
+struct Table {
+    cells: [i128; 4],
+}
+
+/// An expression over a cell and a number, of one of four kinds: 0 the number, 1 the cell, 2 whether
+/// the cell is below the number, 3 the cell, which must not be negative (fault 0).
+#[derive(Clone, Copy)]
+struct Expression {
+    kind: u8,
+    cell: usize,
+    number: i128,
+}
+
+impl Lang for Numbers {
+    type Expr = Expression;
+
+    type Place = usize;
+
+    type Value = i128;
+
+    type Store = Table;
+
+    type Fault = u8;
+
+    ghost value_of = { λ e s. cond (e.kind == 0) (Ok e.number) (cond (e.kind == 1) (Ok (slice_index_or s.cells (e.cell % 4) (pos 0))) (cond (e.kind == 2) (Ok (cond (int_lt (slice_index_or s.cells (e.cell % 4) (pos 0)) e.number) (pos 1) (pos 0))) (cond (int_lt (slice_index_or s.cells (e.cell % 4) (pos 0)) (pos 0)) (Err 0) (Ok (slice_index_or s.cells (e.cell % 4) (pos 0)))))) };
+
+    ghost is_true = { λ v. int_lt (pos 0) v };
+
+    ghost number_of = { λ v. v };
+
+    // What is below -100 isn't assigned: fault 1.
+    ghost assigned = { λ p v s. cond (int_lt v (negsuc 99)) (Err 1) (Ok (record { cells = slice_set s.cells (p % 4) v })) };
+
+    ghost counted = { λ p n s. record { cells = slice_set s.cells (p % 4) n } };
+
+    // Fault 2 stands for want of memory.
+    ghost is_memory = { λ f. f == 2 };
+
+    ghost fits_expr = { λ e s. Unit {0} };
+
+    ghost fits_set = { λ p e s. Unit {0} };
+
+    ghost fits_count = { λ p s. Unit {0} };
+
+    ghost assign_keeps = { λ p v s s' h. record { exprs = λ e f. f; sets = λ q e f. f; counts = λ q f. f } };
+
+    ghost count_keeps = { λ p n s. record { exprs = λ e f. f; sets = λ q e f. f; counts = λ q f. f } };
+
+    fn eval(e: &Expression, s: &Table) -> Result<i128, u8> {
+        let cell = s.cells[e.cell % 4];
+        if e.kind == 0 {
+            Ok(e.number)
+        } else if e.kind == 1 {
+            Ok(cell)
+        } else if e.kind == 2 {
+            Ok(if cell < e.number { 1 } else { 0 })
+        } else if cell < 0 {
+            Err(0)
+        } else {
+            Ok(cell)
+        }
+    }
+
+    fn truth(v: &i128) -> bool {
+        *v > 0
+    }
+
+    fn number(v: &i128) -> i128 {
+        *v
+    }
+
+    /// Above 1,000 it answers want of memory.
+    fn assign(p: &usize, v: i128, s: &mut Table) -> Result<(), u8> {
+        if v < -100 {
+            Err(1)
+        } else if v > 1000 {
+            Err(2)
+        } else {
+            s.cells[*p % 4] = v;
+            Ok(())
+        }
+    }
+
+    fn count(p: &usize, n: i128, s: &mut Table) {
+        s.cells[*p % 4] = n;
+    }
+}
+
+/// A statement in prefix notation: where it holds others, it is followed by as many as it says.
+#[derive(Clone, Copy)]
+enum Token {
+    Set(usize, Expression),
+    If(Expression, usize, usize),
+    While(Expression, usize),
+    Count(usize, Expression, Expression, Expression, usize),
+    Wait(u32),
+    Say(u32),
+    Check(Expression),
+    Stop,
+    Break,
+    Continue,
+}
+
+/// Takes statements from the end of a list, the last one first.
+fn take(
+    alloc: Global,
+    stack: &mut Vec<Step<Numbers>>,
+    many: usize,
+) -> Result<Vec<Step<Numbers>>, Memory>
+    ensures { IfOk result (λ b. block_size (block_of b.items) + block_size (block_of stack.new.items) ≤ block_size (block_of stack.old.items)) }
+{
+    let mut block = Vec::new(alloc);
+    for _ in 0..many {
+        match stack.pop() {
+            Some(step) => block.push(step)?,
+            None => return Ok(block),
+        }
+    }
+    Ok(block)
+}
+
+/// The statement of a token, which holds those at the end of a list.
+fn make(
+    alloc: Global,
+    token: Token,
+    stack: &mut Vec<Step<Numbers>>,
+) -> Result<Step<Numbers>, Memory>
+    ensures { IfOk result (λ step. size (statement_of step) + block_size (block_of stack.new.items) ≤ block_size (block_of stack.old.items) + 1) }
+{
+    match token {
+        Token::Set(place, value) => Ok(Step::Set(place, value)),
+        Token::If(test, first, second) => {
+            let then_part = take(alloc, stack, first)?;
+            let else_part = take(alloc, stack, second)?;
+            Ok(Step::If(test, then_part, else_part))
+        }
+        Token::While(test, many) => {
+            let body = take(alloc, stack, many)?;
+            Ok(Step::While(test, body))
+        }
+        Token::Count(place, from, to, step, many) => {
+            let body = take(alloc, stack, many)?;
+            Ok(Step::Count(place, from, to, step, body))
+        }
+        Token::Wait(what) => Ok(Step::Wait(what)),
+        Token::Say(what) => Ok(Step::Say(what)),
+        Token::Check(test) => Ok(Step::Check(test)),
+        Token::Stop => Ok(Step::Stop),
+        Token::Break => Ok(Step::Break),
+        Token::Continue => Ok(Step::Continue),
+    }
+}
+
+/// The body of a list of tokens.
+fn build(alloc: Global, tokens: &[Token]) -> Result<Vec<Step<Numbers>>, Memory>
+    ensures { IfOk result (λ b. block_size (block_of b.items) ≤ length tokens.now) }
+{
+    let mut stack = Vec::new(alloc);
+    for i in 0..tokens.len() {
+        let step = make(alloc, tokens[tokens.len() - 1 - i], &mut stack)?;
+        stack.push(step)?;
+    }
+    let many = stack.len();
+    take(alloc, &mut stack, many)
+}
+
+/// What an answer and the store after it show: a letter for the answer, its number, and two cells.
+type Row = (char, u32, i128, i128);
+
+/// A row for an answer and the store after it.
+fn row(answer: Resumed<u8>, table: Table) -> Row {
+    let (letter, number) = match answer {
+        Resumed::Waits(n) => ('w', n),
+        Resumed::Says(n) => ('s', n),
+        Resumed::Stopped => ('.', 0),
+        Resumed::Ended => ('e', 0),
+        Resumed::CheckFailed(n) => ('c', n),
+        Resumed::Fault(n, fault) => (if fault == 2 { 'm' } else { 'f' }, n),
+        Resumed::TurnLimit => ('l', 0),
+    };
+    (letter, number, table.cells[0], table.cells[1])
+}
+
+/// The first answers of a body, from a table of zeros.
+fn answers(
+    alloc: Global,
+    tokens: &[Token],
+    budget: u64,
+    times: usize,
+) -> Result<Vec<Row>, Memory>
+    requires { length tokens.now < 2 ^ 32 }
+{
+    let body = build(alloc, tokens)?;
+    let code = flatten(alloc, body)?;
+    let mut state = start(alloc, &code)?;
+    let mut table = Table { cells: [0; 4] };
+    let mut rows = Vec::new(alloc);
+    for _ in 0..times {
+        let answer = resume::<Numbers>(&code, &mut state, &mut table, budget);
+        rows.push(row(answer, table))?;
+    }
+    Ok(rows)
+}
+
+fn number(n: i128) -> Expression {
+    Expression {
+        kind: 0,
+        cell: 0,
+        number: n,
+    }
+}
+
+fn cell(i: usize) -> Expression {
+    Expression {
+        kind: 1,
+        cell: i,
+        number: 0,
+    }
+}
+
+fn below(i: usize, n: i128) -> Expression {
+    Expression {
+        kind: 2,
+        cell: i,
+        number: n,
+    }
+}
+
+fn natural(i: usize) -> Expression {
+    Expression {
+        kind: 3,
+        cell: i,
+        number: 0,
+    }
+}
+
+/// Two counted loops in one another, with a wait, a `Continue` and a `Break` inside, and a `Say`
+/// between the waits: the first turn of the outer loop is left out, and each of the others leaves
+/// the inner loop at its third turn.
+#[test]
+fn resumes_inside_nested_loops(rt: HostRuntime) -> Result<(), Fail> {
+    let body = [
+        Token::Count(0, number(0), number(3), number(1), 3),
+        Token::If(below(0, 1), 1, 0),
+        Token::Continue,
+        Token::Count(1, number(0), number(10), number(1), 3),
+        Token::Wait(7),
+        Token::If(below(1, 2), 0, 1),
+        Token::Break,
+        Token::Set(2, natural(1)),
+        Token::Say(9),
+    ];
+    let rows = answers(rt.alloc(), &body, 100, 10)?;
+    assert_eq!(rt;
+        rows.as_slice(),
+        [
+            ('w', 7, 1, 0),
+            ('w', 7, 1, 1),
+            ('w', 7, 1, 2),
+            ('s', 9, 1, 2),
+            ('w', 7, 2, 0),
+            ('w', 7, 2, 1),
+            ('w', 7, 2, 2),
+            ('s', 9, 2, 2),
+            ('e', 0, 2, 2),
+            ('e', 0, 2, 2),
+        ]
+        .as_slice()
+    );
+    Ok(())
+}
