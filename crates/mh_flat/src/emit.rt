@@ -89,7 +89,11 @@ fn measure_step<L: Lang>(extents: &mut Vec<Extent>, step: &Step<L>) -> Result<()
 }
 
 /// Adds a statement's node.
-fn push_instruction<L: Lang>(instructions: &mut Vec<Instruction<L>>, operation: Operation<L>, after: Position) -> Result<(), Memory>
+fn push_instruction<L: Lang>(
+    instructions: &mut Vec<Instruction<L>>,
+    operation: Operation<L>,
+    after: Position,
+) -> Result<(), Memory>
     ensures { OnOk result (instructions.new.items ≡ instructions.old.items ++ record { operation = operation; after = after } ∷ []) }
 {
     instructions.push(Instruction { operation, after })?;
@@ -184,13 +188,33 @@ fn emit_step<L: Lang>(
                 let place = instructions.len();
                 let then_start = start_of(&then_part, place + 1, after);
                 let else_start = start_of(&else_part, place + extents[place].front, after);
-                push_instruction(instructions, Operation::Branch(test, then_start, else_start), after)?;
-                let then_depth = emit_block(instructions, extents, then_part, after, leave, again, depth)?;
+                push_instruction(
+                    instructions,
+                    Operation::Branch(test, then_start, else_start),
+                    after,
+                )?;
+                let then_depth = emit_block(
+                    instructions,
+                    extents,
+                    then_part,
+                    after,
+                    leave,
+                    again,
+                    depth,
+                )?;
                 most = most.max(then_depth);
                 match take_only(&mut else_part) {
                     Some(only) => current = only,
                     None => {
-                        let else_depth = emit_block(instructions, extents, else_part, after, leave, again, depth)?;
+                        let else_depth = emit_block(
+                            instructions,
+                            extents,
+                            else_part,
+                            after,
+                            leave,
+                            again,
+                            depth,
+                        )?;
                         return Ok(most.max(else_depth));
                     }
                 }
@@ -222,7 +246,10 @@ fn emit_other<L: Lang>(
     ensures depth { IfOk result (λ m. m ≡ nesting (statement_of_parts parts)) }
 {
     let place = instructions.len();
-    let here = Position { at: place, begun: true };
+    let here = Position {
+        at: place,
+        begun: true,
+    };
     match parts {
         Parts::Set(target, value) => {
             push_instruction(instructions, Operation::Assign(target, value), after)?;
@@ -237,7 +264,11 @@ fn emit_other<L: Lang>(
         }
         Parts::Count(target, from, to, step, body) => {
             let first = start_of(&body, place + 1, here);
-            push_instruction(instructions, Operation::Iterate(target, from, to, step, depth, first), after)?;
+            push_instruction(
+                instructions,
+                Operation::Iterate(target, from, to, step, depth, first),
+                after,
+            )?;
             let inner = emit_block(instructions, extents, body, here, after, here, depth + 1)?;
             Ok(inner + 1)
         }
@@ -281,5 +312,8 @@ pub fn flatten<L: Lang>(alloc: Global, body: Vec<Step<L>>) -> Result<Code<L>, Me
     };
     let mut instructions = Vec::new(alloc);
     let depth = emit_block(&mut instructions, &extents, body, end, end, end, 0)?;
-    Ok(Code { instructions, depth })
+    Ok(Code {
+        instructions,
+        depth,
+    })
 }

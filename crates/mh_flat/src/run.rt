@@ -5,7 +5,7 @@ ghost use Rattle.mh_flat.specs.Fits.{FitsItems};
 ghost use Rattle.mh_flat.specs.Stands.{StandsFor, Resumes};
 ghost use Rattle.mh_flat.specs.Flat.{IsCodeOf, Starts};
 
-use crate::code::{Code, Counter, Position, Instruction, Operation, State};
+use crate::code::{Code, Counter, Instruction, Operation, Position, State};
 use crate::lang::Lang;
 use crate::step::Resumed;
 use mh_text::Memory;
@@ -256,14 +256,31 @@ fn run_instruction<L: Lang>(
 {
     let after = instruction.after;
     match &instruction.operation {
-        Operation::Assign(place, expression) => run_assign::<L>(place, expression, after, state, store, budget),
-        Operation::Branch(expression, one, two) => run_branch::<L>(expression, *one, *two, after, state, store, budget),
-        Operation::Repeat(expression, body) => run_repeat::<L>(expression, *body, after, state, store, budget),
+        Operation::Assign(place, expression) => run_assign::<L>(
+            place, expression, after, state, store, budget,
+        ),
+        Operation::Branch(expression, one, two) => run_branch::<L>(
+            expression, *one, *two, after, state, store, budget,
+        ),
+        Operation::Repeat(expression, body) => run_repeat::<L>(
+            expression, *body, after, state, store, budget,
+        ),
         Operation::Iterate(place, from, to, step, depth, body) => {
             if state.position.begun {
-                run_turn::<L>(place, *depth, *body, after, state.counters[*depth], state, store, budget)
+                run_turn::<L>(
+                    place,
+                    *depth,
+                    *body,
+                    after,
+                    state.counters[*depth],
+                    state,
+                    store,
+                    budget,
+                )
             } else {
-                run_entry::<L>(place, from, to, step, *depth, *body, after, state, store, budget)
+                run_entry::<L>(
+                    place, from, to, step, *depth, *body, after, state, store, budget,
+                )
             }
         }
         Operation::Suspend(what) => {

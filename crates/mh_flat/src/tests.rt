@@ -5,6 +5,7 @@ ghost use Rattle.mh_flat.specs.Body.{statement_of, block_of};
 use super::*;
 use mh_text::Memory;
 use std::alloc::Global;
+use std::process::Abort;
 use std::test::Fail;
 
 /// A small language over a table of four numbers.
@@ -196,12 +197,7 @@ fn row(answer: Resumed<u8>, table: Table) -> Row {
 }
 
 /// The first answers of a body, from a table of zeros.
-fn answers(
-    alloc: Global,
-    tokens: &[Token],
-    budget: u64,
-    times: usize,
-) -> Result<Vec<Row>, Memory>
+fn answers(alloc: Global, tokens: &[Token], budget: u64, times: usize) -> Result<Vec<Row>, Memory>
     requires { length tokens.now < 2 ^ 32 }
 {
     let body = build(alloc, tokens)?;
@@ -248,6 +244,21 @@ fn natural(i: usize) -> Expression {
     }
 }
 
+/// Compares the first answers of a body with rows.
+fn expect_rows(
+    rt: &impl Abort,
+    alloc: Global,
+    tokens: &[Token],
+    budget: u64,
+    rows: &[Row],
+) -> Result<(), Memory>
+    requires { length tokens.now < 2 ^ 32 }
+{
+    let found = answers(alloc, tokens, budget, rows.len())?;
+    assert_eq!(rt; found.as_slice(), rows);
+    Ok(())
+}
+
 /// Two counted loops in one another, with a wait, a `Continue` and a `Break` inside, and a `Say`
 /// between the waits: the first turn of the outer loop is left out, and each of the others leaves
 /// the inner loop at its third turn.
@@ -264,22 +275,298 @@ fn resumes_inside_nested_loops(rt: HostRuntime) -> Result<(), Fail> {
         Token::Set(2, natural(1)),
         Token::Say(9),
     ];
-    let rows = answers(rt.alloc(), &body, 100, 10)?;
-    assert_eq!(rt;
-        rows.as_slice(),
-        [
-            ('w', 7, 1, 0),
-            ('w', 7, 1, 1),
-            ('w', 7, 1, 2),
-            ('s', 9, 1, 2),
-            ('w', 7, 2, 0),
-            ('w', 7, 2, 1),
-            ('w', 7, 2, 2),
-            ('s', 9, 2, 2),
-            ('e', 0, 2, 2),
-            ('e', 0, 2, 2),
-        ]
-        .as_slice()
-    );
+    let rows = [
+        ('w', 7, 1, 0),
+        ('w', 7, 1, 1),
+        ('w', 7, 1, 2),
+        ('s', 9, 1, 2),
+        ('w', 7, 2, 0),
+        ('w', 7, 2, 1),
+        ('w', 7, 2, 2),
+        ('s', 9, 2, 2),
+        ('e', 0, 2, 2),
+        ('e', 0, 2, 2),
+    ];
+    expect_rows(&rt, rt.alloc(), &body, 100, &rows)?;
+    Ok(())
+}
+
+/// A counted loop gives its place the numbers from, from + step and so on before the limit, by step
+/// 1, -1, 0 and one that leaves 128 bits, and evaluates its limit once.
+#[test]
+fn counts_up_and_down(rt: HostRuntime) -> Result<(), Fail> {
+    let far = i128::MAX - 1;
+    let up = [
+        Token::Set(1, number(3)),
+        Token::Count(0, number(1), cell(1), number(1), 2),
+        Token::Set(1, number(1)),
+        Token::Wait(4),
+    ];
+    expect_rows(
+        &rt,
+        rt.alloc(),
+        &up,
+        100,
+        &[('w', 4, 1, 1), ('w', 4, 2, 1), ('e', 0, 2, 1)],
+    )?;
+    let down = [
+        Token::Count(0, number(2), number(0), number(-1), 1),
+        Token::Wait(4),
+    ];
+    expect_rows(
+        &rt,
+        rt.alloc(),
+        &down,
+        100,
+        &[('w', 4, 2, 0), ('w', 4, 1, 0), ('e', 0, 1, 0)],
+    )?;
+    let still = [
+        Token::Count(0, number(2), number(9), number(0), 1),
+        Token::Wait(4),
+    ];
+    expect_rows(&rt, rt.alloc(), &still, 100, &[('e', 0, 0, 0)])?;
+    let leaving = [
+        Token::Count(0, number(far), number(i128::MAX), number(5), 1),
+        Token::Wait(4),
+    ];
+    expect_rows(
+        &rt,
+        rt.alloc(),
+        &leaving,
+        100,
+        &[('w', 4, far, 0), ('e', 0, far, 0)],
+    )?;
+    Ok(())
+}
+
+/// A `Continue` and a `Break` after a wait, and where no loop has begun.
+#[test]
+fn leaves_and_goes_on_across_waits(rt: HostRuntime) -> Result<(), Fail> {
+    let goes_on = [
+        Token::While(below(0, 1), 4),
+        Token::Wait(1),
+        Token::Set(0, number(1)),
+        Token::Continue,
+        Token::Stop,
+        Token::Say(2),
+    ];
+    expect_rows(
+        &rt,
+        rt.alloc(),
+        &goes_on,
+        100,
+        &[('w', 1, 0, 0), ('s', 2, 1, 0), ('e', 0, 1, 0)],
+    )?;
+    let leaves = [
+        Token::While(number(1), 3),
+        Token::Wait(1),
+        Token::Break,
+        Token::Stop,
+        Token::Say(2),
+    ];
+    expect_rows(
+        &rt,
+        rt.alloc(),
+        &leaves,
+        100,
+        &[('w', 1, 0, 0), ('s', 2, 0, 0), ('e', 0, 0, 0)],
+    )?;
+    expect_rows(
+        &rt,
+        rt.alloc(),
+        &[Token::Break, Token::Wait(1)],
+        100,
+        &[('e', 0, 0, 0)],
+    )?;
+    expect_rows(
+        &rt,
+        rt.alloc(),
+        &[Token::Continue, Token::Wait(1)],
+        100,
+        &[('e', 0, 0, 0)],
+    )?;
+    Ok(())
+}
+
+/// The limit comes at exactly its count, and not before a wait; a wait sets the count back, and a
+/// `Say` doesn't. The last look of a counted loop counts nothing.
+#[test]
+fn stops_at_the_budget(rt: HostRuntime) -> Result<(), Fail> {
+    let waits = [
+        Token::Set(0, number(5)),
+        Token::Set(1, number(6)),
+        Token::Wait(1),
+        Token::Set(0, number(7)),
+    ];
+    expect_rows(
+        &rt,
+        rt.alloc(),
+        &waits,
+        0,
+        &[('l', 0, 0, 0), ('l', 0, 0, 0)],
+    )?;
+    expect_rows(
+        &rt,
+        rt.alloc(),
+        &waits,
+        1,
+        &[('l', 0, 5, 0), ('l', 0, 5, 0)],
+    )?;
+    expect_rows(
+        &rt,
+        rt.alloc(),
+        &waits,
+        2,
+        &[('w', 1, 5, 6), ('e', 0, 7, 6)],
+    )?;
+    expect_rows(
+        &rt,
+        rt.alloc(),
+        &waits,
+        u64::MAX,
+        &[('w', 1, 5, 6), ('e', 0, 7, 6)],
+    )?;
+    let says = [Token::Say(1), Token::Say(2), Token::Say(3)];
+    expect_rows(
+        &rt,
+        rt.alloc(),
+        &says,
+        2,
+        &[('s', 1, 0, 0), ('s', 2, 0, 0), ('l', 0, 0, 0)],
+    )?;
+    expect_rows(
+        &rt,
+        rt.alloc(),
+        &says,
+        3,
+        &[
+            ('s', 1, 0, 0),
+            ('s', 2, 0, 0),
+            ('s', 3, 0, 0),
+            ('e', 0, 0, 0),
+        ],
+    )?;
+    let turns = [
+        Token::Count(0, number(0), number(2), number(1), 0),
+        Token::Wait(1),
+    ];
+    expect_rows(&rt, rt.alloc(), &turns, 2, &[('l', 0, 0, 0)])?;
+    expect_rows(&rt, rt.alloc(), &turns, 3, &[('w', 1, 1, 0)])?;
+    Ok(())
+}
+
+/// After a fault its statement comes again, with its place in order of text; a failed check and a
+/// stop are taken away.
+#[test]
+fn stays_after_a_fault(rt: HostRuntime) -> Result<(), Fail> {
+    let reads = [
+        Token::If(number(1), 2, 0),
+        Token::Set(0, number(-1)),
+        Token::Set(1, natural(0)),
+        Token::Wait(1),
+    ];
+    expect_rows(
+        &rt,
+        rt.alloc(),
+        &reads,
+        100,
+        &[('f', 2, -1, 0), ('f', 2, -1, 0)],
+    )?;
+    let assigns = [Token::Say(1), Token::Set(0, number(-101))];
+    expect_rows(
+        &rt,
+        rt.alloc(),
+        &assigns,
+        100,
+        &[('s', 1, 0, 0), ('f', 1, 0, 0), ('f', 1, 0, 0)],
+    )?;
+    let wants = [Token::Set(0, number(1001))];
+    expect_rows(
+        &rt,
+        rt.alloc(),
+        &wants,
+        100,
+        &[('m', 0, 0, 0), ('m', 0, 0, 0)],
+    )?;
+    let checks = [
+        Token::Check(number(1)),
+        Token::Check(number(0)),
+        Token::Stop,
+        Token::Wait(5),
+    ];
+    expect_rows(
+        &rt,
+        rt.alloc(),
+        &checks,
+        100,
+        &[
+            ('c', 1, 0, 0),
+            ('.', 0, 0, 0),
+            ('w', 5, 0, 0),
+            ('e', 0, 0, 0),
+        ],
+    )?;
+    Ok(())
+}
+
+/// A chain of 300,000 `If`s, each in the `else` part of the one before, is built, flattened, run and
+/// let go on the default stack; so is such a chain that is let go as it is.
+#[test]
+fn takes_long_chains(rt: HostRuntime) -> Result<(), Fail> {
+    let mut tokens = Vec::new(rt.alloc());
+    for _ in 0..300_000 {
+        tokens.push(Token::If(below(0, 0), 1, 1))?;
+        tokens.push(Token::Wait(1))?;
+    }
+    tokens.push(Token::Wait(2))?;
+    if tokens.len() < 1_000_000 {
+        let dropped = build(rt.alloc(), &tokens)?;
+        assert_eq!(&rt; dropped.len(), 1);
+        expect_rows(
+            &rt,
+            rt.alloc(),
+            &tokens,
+            300_000,
+            &[('w', 2, 0, 0), ('e', 0, 0, 0)],
+        )?;
+        expect_rows(&rt, rt.alloc(), &tokens, 299_999, &[('l', 0, 0, 0)])?;
+    }
+    Ok(())
+}
+
+/// Loops nested 2,000 deep are flattened, run and let go on the default stack.
+#[test]
+fn takes_deep_nesting(rt: HostRuntime) -> Result<(), Fail> {
+    let mut tokens = Vec::new(rt.alloc());
+    for _ in 0..1_000 {
+        tokens.push(Token::While(number(1), 1))?;
+        tokens.push(Token::Count(0, number(0), number(9), number(1), 1))?;
+    }
+    tokens.push(Token::Wait(2))?;
+    if tokens.len() < 1_000_000 {
+        expect_rows(
+            &rt,
+            rt.alloc(),
+            &tokens,
+            3_000,
+            &[('w', 2, 0, 0), ('w', 2, 1, 0)],
+        )?;
+    }
+    Ok(())
+}
+
+/// `start` makes exactly the room for the counters, and `resume` leaves it as it is.
+#[test]
+fn makes_the_room_once(rt: HostRuntime) -> Result<(), Fail> {
+    let tokens = [
+        Token::Count(0, number(0), number(2), number(1), 1),
+        Token::Count(1, number(0), number(2), number(1), 1),
+        Token::Wait(1),
+        Token::Count(0, number(0), number(2), number(1), 0),
+    ];
+    let body = build(rt.alloc(), &tokens)?;
+    let code = flatten(rt.alloc(), body)?;
+    let state = start(rt.alloc(), &code)?;
+    assert_eq!(&rt; state.counters.len(), 2);
     Ok(())
 }
