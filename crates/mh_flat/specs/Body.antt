@@ -1,4 +1,4 @@
--- A body as the program holds it, seen as a block.
+-- A body as the program holds it, seen as a block: each variant of `Step` is the statement of that name.
 use Rattle.std.specs.Prelude.{List, [], ◌∷◌}
 use Rattle.mh_flat.specs.declared.step.Step.{Step, Set, If', While', Count', Wait, Say, Check, Stop, Break, Continue, Row_of-Step, end_of-Step, more_of-Step, items-the_row-Step, items_hidden-the_row-Step-0}
 use Rattle.mh_flat.specs.declared.step.Step.TheBlock.{hidden-the_row-Step-0}
@@ -28,7 +28,7 @@ abbrev pub block_of : {L E P V S F : Type 0} → List (Step L E P V S F) → Blo
 block_of [] = End
 block_of (x ∷ xs) = Then (statement_of x) (block_of xs)
 
--- A statement that holds others, by the list of those.
+-- A statement that holds others is that of the blocks of those.
 row_items : {L E P V S F : Type 0} {m : _} (k : Row_of-Step L E P V S F m) → row_block k ≡ block_of (items-the_row-Step L E P V S F m k)
 row_items end_of-Step = refl
 row_items (more_of-Step x xs) = ap (Then (statement_of x)) (row_items xs)
@@ -47,7 +47,7 @@ pub statement_if : {L E P V S F : Type 0} (e : E) (a b : Vec (Step L E P V S F) 
 statement_if {L} {E} {P} {V} {S} {F} e a b =
     ap (λ v. IfStatement e v (row_block (hidden-the_row-Step-0 L E P V S F b))) (hidden_block a) ∙ ap (IfStatement e (block_of a.items)) (hidden_block b)
 
--- the same, where the lists are known
+-- The same, where the blocks are known.
 pub made_if : {L E P V S F : Type 0} (e : E) (a b : Vec (Step L E P V S F) Global) (x y : Block E P) → block_of a.items ≡ x → block_of b.items ≡ y → statement_of (If e a b) ≡ IfStatement e x y
 made_if e a b x y ea eb = statement_if e a b ∙ ap (λ v. IfStatement e v (block_of b.items)) ea ∙ ap (IfStatement e x) eb
 

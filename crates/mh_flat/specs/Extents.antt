@@ -1,4 +1,5 @@
--- How far each statement of a body reaches, in order of text.
+-- How far each statement of a body reaches, in order of text: what `flatten` measures before it makes the
+-- code, once for the whole body.
 use Rattle.std.specs.Prelude.{ℕ, ◌+◌, ◌≡◌, List, [], ◌∷◌, ◌++◌, Some, slice_get}
 use Rattle.mh_flat.specs.declared.code.Extent.{Extent}
 use Rattle.mh_flat.specs.Flow.{Statement, Block, SetStatement, IfStatement, WhileStatement, CountStatement, WaitStatement, SayStatement, CheckStatement, StopStatement, BreakStatement, ContinueStatement, End, Then, size, block_size}
@@ -18,13 +19,14 @@ front (WhileStatement e b) = 1 + block_size b
 front (CountStatement p x y z b) = 1 + block_size b
 front t = 1
 
--- How many statements a statement of an else part is, with those behind it, or 0 where it is the only one.
+-- What is kept of the size of the first statement of an else part, where the block that follows it is given:
+-- 0 where it is the only statement, since nothing follows it there.
 abbrev pub whole_in_else : {E P : Type 0} → Statement E P → Block E P → ℕ
 whole_in_else t End = 0
 whole_in_else t (Then u b) = size t
 
 abbrev mutual
-  -- the extents of the statements that a statement holds
+  -- The extents of the statements that a statement holds.
   pub inner_extents : {E P : Type 0} → Statement E P → List Extent
   inner_extents (SetStatement p e) = []
   inner_extents (IfStatement e a b) = block_extents a ++ else_extents b
@@ -37,16 +39,16 @@ abbrev mutual
   inner_extents BreakStatement = []
   inner_extents ContinueStatement = []
 
-  -- the extents of a block's statements
+  -- The extents of a block's statements.
   pub block_extents : {E P : Type 0} → Block E P → List Extent
   block_extents End = []
   block_extents (Then t b) = extent (front t) (size t) ∷ (inner_extents t ++ block_extents b)
 
-  -- those of an else part, in which a statement that stands alone has 0 in place of its size
+  -- Those of an else part, in which a statement that stands alone has 0 in place of its size.
   pub else_extents : {E P : Type 0} → Block E P → List Extent
   else_extents End = []
   else_extents (Then t b) = extent (front t) (whole_in_else t b) ∷ (inner_extents t ++ block_extents b)
 
--- a statement's extents, where its own size is given
+-- A statement's extents, where what is kept of its own size is given.
 abbrev pub extents_of : {E P : Type 0} → Statement E P → ℕ → List Extent
 extents_of t whole = extent (front t) whole ∷ inner_extents t

@@ -1,4 +1,6 @@
--- Which bodies fit a store.
+-- Which bodies fit a store, by what their expressions and places do: this project's own rule. A statement
+-- fits where each of its expressions does, an assignment also asks that the place takes the expression's
+-- value, and a counted loop that its place takes numbers.
 use Rattle.std.specs.Prelude.{ℕ, ◌+◌, List, [], ◌∷◌}
 use Rattle.mh_flat.specs.Words.{Keeps}
 use Rattle.mh_flat.specs.declared.lang.Lang.{Ghosts}
@@ -23,7 +25,7 @@ module _ {L E P V S F : Type 0} (l : Ghosts L E P V S F) where
     FitsBlock End s = Unit {0}
     FitsBlock (Then t b) s = FitsStatement t s × FitsBlock b s
 
-  -- what is left fits the store
+  -- What is left fits the store. The expressions of a counted loop that has begun were evaluated before.
   abbrev pub FitsItems : List (Item E P) → S → Type 0
   FitsItems [] s = Unit {0}
   FitsItems (Pending k t ∷ rest) s = FitsStatement t s × FitsItems rest s
@@ -31,7 +33,8 @@ module _ {L E P V S F : Type 0} (l : Ghosts L E P V S F) where
   FitsItems (BegunCount k p n z d b ∷ rest) s = l.fits_count p s × FitsBlock b s × FitsItems rest s
 
 module _ {L E P V S F : Type 0} (l : Ghosts L E P V S F) where
-  -- what is left of a body fits where the body does, and goes on to fit where the store keeps what fits
+  -- What is left of a body fits where the body does, after each jump too, and goes on to fit where the store
+  -- keeps what fits.
   pub fits_todo : (b : Block E P) (k : ℕ) (rest : List (Item E P)) (s : S) → FitsBlock l b s → FitsItems l rest s → FitsItems l (block_items k b rest) s
   fits_todo End k rest s h r = r
   fits_todo (Then t b) k rest s h r = (h.0, fits_todo b (k + size t) rest s h.1 r)

@@ -1,4 +1,4 @@
--- The code of a body.
+-- The code of a body: an instruction for each statement, in order of text.
 use Rattle.std.specs.Prelude.{ℕ, suc, max, ◌+◌, ◌<◌, ◌^◌, List, [], ◌∷◌, ◌++◌, ◌≡◌, length}
 use Rattle.mh_flat.specs.declared.code.Position.{Position}
 use Rattle.mh_flat.specs.declared.code.Operation.{Operation}
@@ -9,7 +9,7 @@ use Rattle.mh_flat.specs.Flow.{Statement, Block, SetStatement, IfStatement, Whil
 use Rattle.mh_flat.specs.declared.code.State.{State}
 use Rattle.mh_flat.specs.Stands.{begun, first, HasBlock, end, StandsFor}
 
--- how deep counted loops stand in one another
+-- How deep the counted loops of a statement or a block are nested.
 abbrev mutual
   pub nesting : {E P : Type 0} → Statement E P → ℕ
   nesting (SetStatement p e) = 0
@@ -27,11 +27,12 @@ abbrev mutual
   block_nesting End = 0
   block_nesting (Then t b) = max (nesting t) (block_nesting b)
 
--- one node
+-- One instruction.
 abbrev pub instruction : {L E P V S F : Type 0} → Operation L E P V S F → Position → Instruction L E P V S F
 instruction operation after = record { operation = operation; after = after }
 
--- the nodes from k on, where what follows, breaks and continues lead, and how many counted loops are around
+-- The instructions of a statement or a block whose first has place k, where the positions are given that
+-- follow it, a break in it and a continue in it, and the number d of counted loops around it.
 abbrev mutual
   pub instructions_of : {L E P V S F : Type 0} → Statement E P → ℕ → (after leave again : Position) → ℕ → List (Instruction L E P V S F)
   instructions_of (SetStatement p e) k after leave again d = instruction (Assign p e) after ∷ []
@@ -53,14 +54,15 @@ abbrev mutual
   block_instructions (Then t b) k after leave again d =
       instructions_of t k (first (k + size t) b after) leave again d ++ block_instructions b (k + size t) after leave again d
 
--- The code holds this body.
+-- The code is that of the body: as many instructions as statements, which are those of the body from place 0
+-- on, and a depth that is the nesting of its counted loops.
 pub record IsCodeOf {L E P V S F : Type 0} (b : Block E P) (c : Code L E P V S F) : Type 0 where
   pub small : length c.instructions.items < 2 ^ 32
   pub long : length c.instructions.items ≡ block_size b
   pub deep : c.depth ≡ block_nesting b
   pub has : HasBlock c.instructions.items c.depth b 0 (end c.instructions.items c.depth) (end c.instructions.items c.depth) (end c.instructions.items c.depth) 0
 
--- The state stands for the whole body, of which nothing has been counted.
+-- The state stands for the whole body, has exactly the room for its counters, and has counted nothing.
 pub record Starts {L E P V S F : Type 0} (c : Code L E P V S F) (st : State) : Type 0 where
   pub left : (b : Block E P) → IsCodeOf b c → StandsFor c (block_items 0 b []) st
   pub room : (b : Block E P) → IsCodeOf b c → length st.counters.items ≡ block_nesting b

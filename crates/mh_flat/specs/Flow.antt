@@ -147,8 +147,8 @@ module _ {L E P V S F : Type 0} (l : Ghosts L E P V S F) (budget : ℕ) where
   abbrev pub Stays : List (Item E P) → S → ℕ → List (Item E P) → S → ℕ → Type 0
   Stays xs s n ys t m = (ys ≡ xs) × (t ≡ s) × (m ≡ n)
 
-  -- The next rewriting fails with this fault at this place. Want of memory may also come, at the place of an
-  -- assignment alone, where the rewriting doesn't fail.
+  -- The next rewriting fails with this fault at this place. At an assignment want of memory may also come,
+  -- whatever the rewriting is.
   abbrev pub FailsAt : List (Item E P) → S → ℕ → F → Type 0
   FailsAt (Pending k (SetStatement p e) ∷ rest) s at f =
       (rewriting l (Pending k (SetStatement p e) ∷ rest) s ≡ Fails at f) ⊎ ((at ≡ k) × IsTrue (l.is_memory f))

@@ -1,4 +1,4 @@
--- What the code does at a goal.
+-- What an instruction does at a position, as data: the small functions of `resume` say by it what they do.
 use Rattle.std.specs.Prelude.{ℕ, ℤ, ◌+◌, ◌<◌, ◌≤◌, ◌+ℤ◌, ◌-◌, Bool, true, false, List, ◌≡◌, Result, Ok, Err, cond, Option, Some, None, slice_get, slice_set, MatchOption}
 use Rattle.mh_flat.specs.declared.lang.Lang.{Ghosts}
 use Rattle.mh_flat.specs.declared.step.Resumed.{Resumed}
@@ -12,7 +12,8 @@ use Rattle.mh_flat.specs.declared.code.State.{State}
 use Rattle.mh_flat.specs.Words.{Unless}
 use Rattle.mh_flat.specs.Flow.{is_before}
 
--- what a node does
+-- What an instruction does: it moves on, counting or not; it assigns a value; it enters a counted loop; it
+-- begins a turn of one; it halts with an answer; it fails with a fault; or there is none.
 pub data Action (E P V S F : Type 0) : Type 0 where
   Moves : (counts : ℕ) → Position → Action E P V S F
   Assigns : (at : ℕ) → P → V → Position → Action E P V S F
@@ -26,12 +27,12 @@ abbrev pub with_value : {A E P V S F : Type 0} → ℕ → Result A F → (A →
 with_value k (Ok x) go = go x
 with_value k (Err f) go = Fails k f
 
--- where the next number leads, if it stands before the end, or none
+-- A counted loop's next number, if there is one, begins a turn where it stands before the limit.
 abbrev pub number_turn : {E P V S F : Type 0} → ℕ → P → Position → Position → Option ℤ → ℤ → ℤ → Action E P V S F
 number_turn depth p body after None z d = Moves 0 after
 number_turn depth p body after (Some n) z d = cond (is_before n z d) (Turns depth p n z d body) (Moves 0 after)
 
--- the same of a counter
+-- The same of a counter.
 abbrev pub counter_turn : {E P V S F : Type 0} → ℕ → P → Position → Position → Option Counter → Action E P V S F
 counter_turn depth p body after None = Ends
 counter_turn depth p body after (Some c) = number_turn depth p body after c.next c.to c.step
@@ -54,7 +55,7 @@ module _ {L E P V S F : Type 0} (l : Ghosts L E P V S F) where
   action_at None g cs s = Ends
   action_at (Some instruction) g cs s = operation_action instruction.operation instruction.after g cs s
 
--- whether it counts as a statement
+-- Whether an action is a counted statement.
 abbrev pub action_counts : {E P V S F : Type 0} → Action E P V S F → ℕ
 action_counts (Moves k g) = k
 action_counts (Assigns k p v g) = 1
@@ -64,11 +65,11 @@ action_counts (Halts k r g) = k
 action_counts (Fails k f) = 1
 action_counts Ends = 0
 
--- the next number of a loop, if it stands before the end, or none
+-- A counter's next number is this number, or none where it doesn't stand before the limit.
 abbrev pub IsNext : Option ℤ → ℤ → ℤ → ℤ → Type 0
 IsNext o n z d = MatchOption o (is_before n z d ≡ false) (λ m. m ≡ n)
 
--- a goal, the counters and the count of statements
+-- A position, the counters and the count of statements.
 pub record Configuration : Type 0 where
   pub position : Position
   pub counters : List Counter
@@ -78,7 +79,8 @@ abbrev pub configuration_of : State → Configuration
 configuration_of st = record { position = st.position; counters = st.counters.items; count = st.count }
 
 module _ {L E P V S F : Type 0} (l : Ghosts L E P V S F) (budget : ℕ) where
-  -- what is left of the place and the store after an act that goes on
+  -- The configuration and the store after an action that goes on. One that counts needs the count below the
+  -- budget.
   abbrev pub GoesOn : Action E P V S F → Configuration → S → Configuration → S → Type 0
   GoesOn (Moves k g) p s p' s' =
       (k ≤ budget - p.count) × (p'.position ≡ g) × (p'.counters ≡ p.counters) × (p'.count ≡ p.count + k) × (s' ≡ s)
@@ -95,13 +97,13 @@ module _ {L E P V S F : Type 0} (l : Ghosts L E P V S F) (budget : ℕ) where
   abbrev pub Stays : Configuration → S → Configuration → S → Type 0
   Stays p s p' s' = (p'.position ≡ p.position) × (p'.counters ≡ p.counters) × (p'.count ≡ p.count) × (s' ≡ s)
 
-  -- what is left after an answer that halts
+  -- Those after an action that halts with an answer: a wait sets the count back.
   abbrev pub HaltsAt : Resumed F → ℕ → Position → Configuration → S → Configuration → S → Type 0
   HaltsAt (Waits w) k g p s p' s' = (p'.position ≡ g) × (p'.counters ≡ p.counters) × (p'.count ≡ 0) × (s' ≡ s)
   HaltsAt r k g p s p' s' =
       (k ≤ budget - p.count) × (p'.position ≡ g) × (p'.counters ≡ p.counters) × (p'.count ≡ p.count + k) × (s' ≡ s)
 
-  -- a fault that an act may answer
+  -- A fault that an action may answer: its own, and at an assignment that of the language, or want of memory.
   abbrev pub FailsBy : Action E P V S F → S → ℕ → F → Type 0
   FailsBy (Fails k f) s k' f' = (k' ≡ k) × (f' ≡ f)
   FailsBy (Assigns k q v g) s k' f' = (k' ≡ k) × Unless (l.is_memory f') (l.assigned q v s ≡ Err f')
@@ -114,13 +116,13 @@ module _ {L E P V S F : Type 0} (l : Ghosts L E P V S F) (budget : ℕ) where
   Answers (Halts k r g) r' p s p' s' = (r' ≡ r) × HaltsAt r k g p s p' s'
   Answers a r p s p' s' = ⊥
 
-  -- what is left after an act, with its answer if it halts
+  -- What an action leaves, with the answer where it stops.
   abbrev pub Does : Action E P V S F → Option (Resumed F) → Configuration → S → Configuration → S → Type 0
   Does a None p s p' s' = GoesOn a p s p' s'
   Does a (Some r) p s p' s' = Answers a r p s p' s'
 
 module _ {L E P V S F : Type 0} (l : Ghosts L E P V S F) where
-  -- the node's expressions and places belong to the store
+  -- The expressions and places that an instruction uses fit the store.
   abbrev pub FitsOperation : Operation L E P V S F → Bool → S → Type 0
   FitsOperation (Assign p e) begun s = l.fits_expr e s × l.fits_set p e s
   FitsOperation (Branch e a b) begun s = l.fits_expr e s
@@ -133,12 +135,12 @@ module _ {L E P V S F : Type 0} (l : Ghosts L E P V S F) where
   FitsOperation Finish begun s = Unit {0}
   FitsOperation Jump begun s = Unit {0}
 
--- there is room for the loop's counter
+-- There is room for a loop's counter.
 abbrev pub HasRoom : {L E P V S F : Type 0} → Operation L E P V S F → ℕ → Type 0
 HasRoom (Iterate p a z d depth b) n = depth < n
 HasRoom operation n = Unit {0}
 
--- whether a counter's next number stands before its end
+-- Whether a counter's next number stands before its limit.
 abbrev pub number_before : Option ℤ → ℤ → ℤ → Bool
 number_before None z d = false
 number_before (Some n) z d = is_before n z d
@@ -147,13 +149,13 @@ abbrev pub counter_before : Option Counter → Bool
 counter_before None = false
 counter_before (Some c) = number_before c.next c.to c.step
 
--- whether the node's act counts as a statement
+-- Whether an instruction's action is a counted statement.
 abbrev pub operation_counts : {L E P V S F : Type 0} → Operation L E P V S F → Bool → List Counter → Bool
 operation_counts (Suspend w) begun cs = false
 operation_counts (Iterate p a z d depth b) begun cs = cond begun (counter_before (slice_get cs depth)) true
 operation_counts operation begun cs = true
 
--- what is asked of a node, if there is one
+-- What is asked of an instruction, if there is one.
 abbrev pub OnInstruction : {L E P V S F : Type 0} → Option (Instruction L E P V S F) → (Operation L E P V S F → Type 0) → Type 0
 OnInstruction None Q = Unit {0}
 OnInstruction (Some instruction) Q = Q instruction.operation

@@ -1,4 +1,4 @@
--- A statement that was taken apart.
+-- A statement that was taken apart, seen as the statement.
 use Rattle.mh_flat.specs.declared.step.Parts.{Parts}
 use Rattle.mh_flat.specs.declared.step.Parts.TheVariants.{Set, If, While, Count, Wait, Say, Check, Stop, Break, Continue}
 use Rattle.mh_flat.specs.Flow.{Statement, SetStatement, IfStatement, WhileStatement, CountStatement, WaitStatement, SayStatement, CheckStatement, StopStatement, BreakStatement, ContinueStatement}
@@ -16,7 +16,7 @@ statement_of_parts Stop = StopStatement
 statement_of_parts Break = BreakStatement
 statement_of_parts Continue = ContinueStatement
 
--- the statement is no If
+-- The statement is no `If`.
 abbrev pub IsNoIf : {L E P V S F : Type 0} → Parts L E P V S F → Type 0
 IsNoIf (If e a b) = ⊥
 IsNoIf parts = Unit {0}

@@ -12,7 +12,7 @@ use crate::step::{Parts, Step};
 use mh_text::Memory;
 use std::alloc::Global;
 
-/// A statement's extent before anything is known of it.
+/// Adds an extent of which nothing is known yet.
 fn reserve(extents: &mut Vec<Extent>) -> Result<(), Memory>
     ensures { OnOk result (extents.new.items ≡ extents.old.items ++ extent 1 0 ∷ []) }
 {
@@ -20,7 +20,7 @@ fn reserve(extents: &mut Vec<Extent>) -> Result<(), Memory>
     Ok(())
 }
 
-/// Sets how far the first part of the statement at a place reaches: up to here.
+/// Sets how far the statement at a place reaches without its `else` part: up to here.
 fn set_front(extents: &mut Vec<Extent>, at: usize)
     requires { at < length extents.old.items }
     ensures { extents.new.items ≡ slice_set extents.old.items at (extent (length extents.old.items - at) 0) }
@@ -29,7 +29,7 @@ fn set_front(extents: &mut Vec<Extent>, at: usize)
     extents[at] = Extent { front, whole: 0 };
 }
 
-/// Sets how far the statement at a place reaches: up to here.
+/// Sets how far the statement at a place reaches in all: up to here.
 fn set_whole(extents: &mut Vec<Extent>, at: usize)
     requires { at < length extents.old.items }
     ensures { (e : Extent) → slice_get extents.old.items at ≡ Some e → extents.new.items ≡ slice_set extents.old.items at (extent e.front (length extents.old.items - at)) }
@@ -53,7 +53,8 @@ fn measure_block<L: Lang>(extents: &mut Vec<Extent>, block: &[Step<L>]) -> Resul
     Ok(())
 }
 
-/// Adds the extents of a statement, the first one's reach left open.
+/// Adds the extents of a statement and of those that it holds; its own size is left open. Where an
+/// `else` part is one statement, the loop goes on with that one.
 #[cycle(measure)]
 fn measure_step<L: Lang>(extents: &mut Vec<Extent>, step: &Step<L>) -> Result<(), Memory>
     requires small { length extents.old.items + size (statement_of step.now) < 2 ^ 32 }
@@ -88,7 +89,7 @@ fn measure_step<L: Lang>(extents: &mut Vec<Extent>, step: &Step<L>) -> Result<()
     }
 }
 
-/// Adds a statement's node.
+/// Adds a statement's instruction.
 fn push_instruction<L: Lang>(
     instructions: &mut Vec<Instruction<L>>,
     operation: Operation<L>,
@@ -100,7 +101,7 @@ fn push_instruction<L: Lang>(
     Ok(())
 }
 
-/// Where a block at k begins, or what follows it where it is empty.
+/// The position where a block at a place begins, or what follows it where it is empty.
 fn start_of<L: Lang>(block: &[Step<L>], place: usize, after: Position) -> Position
     ensures { result ≡ first place (block_of block.now) after }
 {
@@ -114,7 +115,7 @@ fn start_of<L: Lang>(block: &[Step<L>], place: usize, after: Position) -> Positi
     }
 }
 
-/// Where the next statement is, or what follows the last one.
+/// The position of the next statement of a block, or what follows the block after its last one.
 fn next_position(last: bool, at: usize, after: Position) -> Position
     ensures { result ≡ cond last after (record { at = at; begun = false }) }
 {
@@ -125,14 +126,16 @@ fn next_position(last: bool, at: usize, after: Position) -> Position
     }
 }
 
-/// Takes out the statement of a block that has exactly one.
+/// Takes out the statement of a block that has exactly one, and leaves any other block.
 fn take_only<L: Lang>(block: &mut Vec<Step<L>>) -> Option<Step<L>>
     ensures { MatchOption result ((block.new.items ≡ block.old.items) × (length block.old.items ≡ 1 → ⊥)) (λ step. block.old.items ≡ step ∷ []) }
 {
     if block.len() == 1 { block.pop() } else { None }
 }
 
-/// Adds the nodes of a block, and says how deep its counted loops stand in one another.
+/// Adds the instructions of a block, and answers how deep its counted loops are nested. `after`,
+/// `leave` and `again` are the positions that follow the block, a `Break` in it and a `Continue` in
+/// it, and `depth` says how many counted loops are around it.
 #[cycle(emit)]
 fn emit_block<L: Lang>(
     instructions: &mut Vec<Instruction<L>>,
@@ -162,7 +165,7 @@ fn emit_block<L: Lang>(
     Ok(most)
 }
 
-/// Adds the nodes of a statement. Where an `else` part is one statement, the loop goes on with
+/// Adds the instructions of a statement. Where an `else` part is one statement, the loop goes on with
 /// that one, so that a chain of `If`s needs no recursion.
 #[cycle(emit)]
 fn emit_step<L: Lang>(
@@ -227,7 +230,7 @@ fn emit_step<L: Lang>(
     }
 }
 
-/// Adds the nodes of a statement that is no `If`.
+/// Adds the instructions of a statement that is no `If`.
 #[cycle(emit)]
 fn emit_other<L: Lang>(
     instructions: &mut Vec<Instruction<L>>,
@@ -299,7 +302,9 @@ fn emit_other<L: Lang>(
     }
 }
 
-/// The code of a body.
+/// Makes the code of a body, which it takes over. The body has fewer than 2^32 statements. The time is
+/// in proportion to their number, and a chain of `If`s, each in the `else` part of the one before, is
+/// taken apart by a loop. After want of memory the body is dropped.
 pub fn flatten<L: Lang>(alloc: Global, body: Vec<Step<L>>) -> Result<Code<L>, Memory>
     requires { block_size (block_of body.items) < 2 ^ 32 }
     ensures { IfOk result (λ c. IsCodeOf (block_of body.items) c) }

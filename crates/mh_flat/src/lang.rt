@@ -1,34 +1,43 @@
 ghost use Rattle.std.specs.Prelude.{◌≡◌, ℤ, Bool, true, Result, Ok, Err, IfOk, IfErr, OnErr};
 ghost use Rattle.mh_flat.specs.Words.{Keeps, Unless};
 
-/// Expressions, places and values of a language, with the store that they are about.
+/// A language of expressions and places over a store, by which bodies of statements run. Its laws:
+/// what `eval` answers is determined by the expression and the store, and what `truth` and `number`
+/// answer by the value; what `assign` and `count` leave is determined by the place, the value or
+/// number and the store, and so is a fault of `assign`, want of memory aside; after a fault `assign`
+/// leaves the store as it was; and what fits a store still fits it after `assign` and `count`.
 pub trait Lang {
+    /// Expressions.
     type Expr: Drop;
 
+    /// What can be assigned to.
     type Place: Drop;
 
+    /// What expressions give.
     type Value: Drop;
 
+    /// What expressions read and assignments change.
     type Store;
 
+    /// What may go wrong in `eval` and `assign`.
     type Fault: Drop;
 
-    /// What an expression gives in a store.
+    /// What an expression gives in a store, or its fault.
     ghost value_of: { Self.Expr → Self.Store → Result Self.Value Self.Fault };
 
-    /// Whether a value counts as true.
+    /// Whether a value is true.
     ghost is_true: { Self.Value → Bool };
 
     /// The number that a value stands for.
     ghost number_of: { Self.Value → ℤ };
 
-    /// What an assignment leaves, or its fault.
+    /// The store after an assignment, or its fault.
     ghost assigned: { Self.Place → Self.Value → Self.Store → Result Self.Store Self.Fault };
 
-    /// What giving a loop's variable its number leaves.
+    /// The store after a counted loop has given its place a number.
     ghost counted: { Self.Place → ℤ → Self.Store → Self.Store };
 
-    /// Whether a fault says that memory was wanting.
+    /// Whether a fault is want of memory.
     ghost is_memory: { Self.Fault → Bool };
 
     /// Whether an expression may be evaluated in a store.
@@ -37,31 +46,39 @@ pub trait Lang {
     /// Whether the value of an expression may be assigned to a place in a store.
     ghost fits_set: { Self.Place → Self.Expr → Self.Store → Type 0 };
 
-    /// Whether a place may be a loop's variable in a store.
+    /// Whether a counted loop may give a place its numbers in a store.
     ghost fits_count: { Self.Place → Self.Store → Type 0 };
 
+    /// The value of an expression that fits the store, or its fault.
     fn eval(e: &Self::Expr, s: &Self::Store) -> Result<Self::Value, Self::Fault>
         requires { fits_expr e.now s.now }
         ensures { result ≡ value_of e.now s.now };
 
+    /// Whether a value is true.
     fn truth(v: &Self::Value) -> bool
         ensures { result ≡ is_true v.now };
 
+    /// The number that a value stands for.
     fn number(v: &Self::Value) -> i128
         ensures { result ≡ number_of v.now };
 
+    /// Assigns to a place the value that an expression has, where both fit the store. After a
+    /// fault the store is as it was. Want of memory may come anywhere; no other fault comes but by
+    /// the language's meaning.
     fn assign(p: &Self::Place, v: Self::Value, s: &mut Self::Store) -> Result<(), Self::Fault>
         requires { (e : Self.Expr) × fits_set p.now e s.old × (value_of e s.old ≡ Ok v) }
         ensures ok { IfOk result (λ _. assigned p.now v s.old ≡ Ok s.new) }
         ensures fault { IfErr result (λ f. Unless (is_memory f) (assigned p.now v s.old ≡ Err f)) }
         ensures unchanged { OnErr result (s.new ≡ s.old) };
 
+    /// Gives a place the number of a counted loop.
     fn count(p: &Self::Place, n: i128, s: &mut Self::Store)
         requires { fits_count p.now s.old }
         ensures { s.new ≡ counted p.now n s.old };
 
-    /// What fits a store fits it after an assignment and after a loop's number.
+    /// What fits a store fits it after an assignment.
     ghost assign_keeps: { (p : Self.Place) (v : Self.Value) (s s' : Self.Store) → assigned p v s ≡ Ok s' → Keeps fits_expr fits_set fits_count s s' };
 
+    /// What fits a store fits it after a counted loop has given its place a number.
     ghost count_keeps: { (p : Self.Place) (n : ℤ) (s : Self.Store) → Keeps fits_expr fits_set fits_count s (counted p n s) };
 }

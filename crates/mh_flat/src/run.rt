@@ -11,7 +11,7 @@ use crate::step::Resumed;
 use mh_text::Memory;
 use std::alloc::Global;
 
-/// Whether n stands before z in the direction of d.
+/// Whether a number stands before a limit in the direction of a step.
 fn stands_before(number: i128, limit: i128, step: i128) -> bool
     ensures { result ≡ is_before number limit step }
 {
@@ -24,7 +24,8 @@ fn stands_before(number: i128, limit: i128, step: i128) -> bool
     }
 }
 
-/// The number that follows n, if there is one and it may matter.
+/// The number that follows another by a step, if it fits 128 signed bits. Where it doesn't, it can't
+/// stand before the limit, which does.
 fn next_number(number: i128, limit: i128, step: i128) -> Option<i128>
     requires { is_before number limit step ≡ true }
     ensures { IsNext result (number +ℤ step) limit step }
@@ -32,6 +33,7 @@ fn next_number(number: i128, limit: i128, step: i128) -> Option<i128>
     number.checked_add(step)
 }
 
+/// Carries out an assignment.
 fn run_assign<L: Lang>(
     place: &L::Place,
     expression: &L::Expr,
@@ -58,6 +60,7 @@ fn run_assign<L: Lang>(
     }
 }
 
+/// Goes to one of two positions by a test.
 fn run_branch<L: Lang>(
     expression: &L::Expr,
     one: Position,
@@ -82,6 +85,7 @@ fn run_branch<L: Lang>(
     }
 }
 
+/// Goes to the body of a loop where its test holds, and else on.
 fn run_repeat<L: Lang>(
     expression: &L::Expr,
     body: Position,
@@ -105,6 +109,7 @@ fn run_repeat<L: Lang>(
     }
 }
 
+/// Checks that a test holds.
 fn run_assert<L: Lang>(
     expression: &L::Expr,
     after: Position,
@@ -132,6 +137,7 @@ fn run_assert<L: Lang>(
     }
 }
 
+/// Enters a counted loop: evaluates from, to and step, and keeps their numbers.
 fn run_entry<L: Lang>(
     place: &L::Place,
     from: &L::Expr,
@@ -174,6 +180,7 @@ fn run_entry<L: Lang>(
     None
 }
 
+/// A turn of a counted loop that has begun, if there is a next number, and else goes on.
 fn run_turn<L: Lang>(
     place: &L::Place,
     depth: usize,
@@ -213,7 +220,7 @@ fn run_turn<L: Lang>(
     }
 }
 
-/// Whether what stands here counts as a statement.
+/// Whether what an instruction does here is a counted statement.
 fn is_counted<L: Lang>(operation: &Operation<L>, state: &State) -> bool
     requires { HasRoom operation.now (length state.now.counters.items) }
     ensures { result ≡ operation_counts operation.now state.now.position.begun state.now.counters.items }
@@ -231,7 +238,7 @@ fn is_counted<L: Lang>(operation: &Operation<L>, state: &State) -> bool
     }
 }
 
-/// Whether a loop has another turn.
+/// Whether a counted loop has another turn.
 fn is_unfinished(counter: Counter) -> bool
     ensures { result ≡ number_before counter.next counter.to counter.step }
 {
@@ -241,7 +248,7 @@ fn is_unfinished(counter: Counter) -> bool
     }
 }
 
-/// What a node does.
+/// Carries out an instruction, with the answer where it stops.
 fn run_instruction<L: Lang>(
     instruction: &Instruction<L>,
     state: &mut State,
@@ -307,7 +314,7 @@ fn run_instruction<L: Lang>(
     }
 }
 
-/// What stands at the goal: one rewriting, or an answer.
+/// Carries out what stands at the state's position: one rewriting, or an answer.
 fn advance<L: Lang>(
     code: &Code<L>,
     state: &mut State,
@@ -330,7 +337,11 @@ fn advance<L: Lang>(
     run_instruction(instruction, state, store, budget)
 }
 
-/// Goes on up to the next stop.
+/// Resumes a body: carries it out from where the state stands up to the next stop, and leaves the
+/// state there. The answer, the store, the count of executed statements and what is left are those of
+/// the rewritings. `budget` is the number of statements that may be executed between two waits.
+/// Takes no memory but what `assign` of the language takes, and time in proportion to the executed
+/// statements, whatever the size of the body and its nesting.
 pub fn resume<L: Lang>(
     code: &Code<L>,
     state: &mut State,
@@ -347,7 +358,8 @@ pub fn resume<L: Lang>(
     }
 }
 
-/// A body's state before its first statement, with room for the numbers of all its loops.
+/// The state before a body's first statement, with exactly the room for the numbers of its counted
+/// loops as deep as they are nested. Nothing is counted yet.
 pub fn start<L: Lang>(alloc: Global, code: &Code<L>) -> Result<State, Memory>
     requires { (b : Block L.Expr L.Place) × IsCodeOf b code.now }
     ensures { IfOk result (λ state. Starts code.now state) }

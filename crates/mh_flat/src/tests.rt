@@ -388,8 +388,7 @@ fn leaves_and_goes_on_across_waits(rt: HostRuntime) -> Result<(), Fail> {
     Ok(())
 }
 
-/// The limit comes at exactly its count, and not before a wait; a wait sets the count back, and a
-/// `Say` doesn't. The last look of a counted loop counts nothing.
+/// The limit comes at exactly its count, and not before a wait, which sets the count back.
 #[test]
 fn stops_at_the_budget(rt: HostRuntime) -> Result<(), Fail> {
     let waits = [
@@ -426,6 +425,12 @@ fn stops_at_the_budget(rt: HostRuntime) -> Result<(), Fail> {
         u64::MAX,
         &[('w', 1, 5, 6), ('e', 0, 7, 6)],
     )?;
+    Ok(())
+}
+
+/// A `Say` counts and doesn't set the count back. The last look of a counted loop counts nothing.
+#[test]
+fn counts_on_after_a_say(rt: HostRuntime) -> Result<(), Fail> {
     let says = [Token::Say(1), Token::Say(2), Token::Say(3)];
     expect_rows(
         &rt,
