@@ -1,14 +1,14 @@
 -- The code of a block, a statement at a time.
-use Rattle.std.proofs.Common.{Vec, Global, ◌^◌, ◌≡◌, ℕ, suc, ◌+◌, ◌<◌, ◌≤◌, max, List, [], ◌∷◌, ◌++◌, length, refl, sym, ap, ◌∙◌, subst, arith, append_assoc, length-append, Bool, true, false, cond, get_or}
-use Rattle.std.specs.Prelude.{slice_get, Some, reverse, ◌==◌}
+use Rattle.std.proofs.Common.{◌^◌, ◌≡◌, ℕ, suc, ◌+◌, ◌<◌, ◌≤◌, max, List, [], ◌∷◌, ◌++◌, length, refl, sym, ap, ◌∙◌, subst, arith, append_assoc, length-append, Bool, true, false, cond, get_or}
+use Rattle.std.specs.Prelude.{reverse, ◌==◌}
 use Rattle.std.proofs.lemmas.Bool.{eqb-true, eqb-false}
 use Rattle.std.proofs.lemmas.Option.{slice_get_within, get_or_from_slice_get}
 use Rattle.std.proofs.lemmas.List.{append-nil, reverse-append, length-reverse}
 use Rattle.mh_flat.specs.declared.step.Step.{Step}
 use Rattle.mh_flat.specs.Body.{statement_of, block_of}
 use Rattle.mh_flat.specs.declared.code.Extent.{Extent}
-use Rattle.mh_flat.specs.Extents.{HasAt, extents_of, inner_extents, block_extents, else_extents}
-use Rattle.mh_flat.proofs.Measures.{after_one, has_front, has_back, has_all, length_inner, length_extents, else_block}
+use Rattle.mh_flat.specs.Extents.{HasAt, extents_of, block_extents, else_extents}
+use Rattle.mh_flat.proofs.Measures.{after_one, has_front, has_back, has_all, length_inner, length_extents}
 use Rattle.mh_flat.proofs.Bodies.{first_empty, first_full}
 use Rattle.mh_flat.specs.declared.code.Position.{Position}
 use Rattle.mh_flat.specs.declared.code.Operation.TheVariants.{Branch, Repeat, Iterate}

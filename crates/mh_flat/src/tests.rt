@@ -196,17 +196,25 @@ fn row(answer: Resumed<u8>, table: Table) -> Row {
     (letter, number, table.cells[0], table.cells[1])
 }
 
-/// The first answers of a body, from a table of zeros.
-fn answers(alloc: Global, tokens: &[Token], budget: u64, times: usize) -> Result<Vec<Row>, Memory>
+/// The first answers of a body, from a table of zeros. No `resume` changes the room for counters.
+fn answers(
+    rt: &impl Abort,
+    alloc: Global,
+    tokens: &[Token],
+    budget: u64,
+    times: usize,
+) -> Result<Vec<Row>, Memory>
     requires { length tokens.now < 2 ^ 32 }
 {
     let body = build(alloc, tokens)?;
     let code = flatten(alloc, body)?;
     let mut state = start(alloc, &code)?;
+    let room = state.counters.capacity();
     let mut table = Table { cells: [0; 4] };
     let mut rows = Vec::new(alloc);
     for _ in 0..times {
         let answer = resume::<Numbers>(&code, &mut state, &mut table, budget);
+        assert_eq!(rt; state.counters.capacity(), room);
         rows.push(row(answer, table))?;
     }
     Ok(rows)
@@ -254,7 +262,7 @@ fn expect_rows(
 ) -> Result<(), Memory>
     requires { length tokens.now < 2 ^ 32 }
 {
-    let found = answers(alloc, tokens, budget, rows.len())?;
+    let found = answers(rt, alloc, tokens, budget, rows.len())?;
     assert_eq!(rt; found.as_slice(), rows);
     Ok(())
 }
@@ -560,9 +568,9 @@ fn takes_deep_nesting(rt: HostRuntime) -> Result<(), Fail> {
     Ok(())
 }
 
-/// `start` makes exactly the room for the counters, and `resume` leaves it as it is.
+/// `start` makes exactly the room for the counters of nested counted loops.
 #[test]
-fn makes_the_room_once(rt: HostRuntime) -> Result<(), Fail> {
+fn makes_the_room(rt: HostRuntime) -> Result<(), Fail> {
     let tokens = [
         Token::Count(0, number(0), number(2), number(1), 1),
         Token::Count(1, number(0), number(2), number(1), 1),

@@ -1,4 +1,4 @@
-use Rattle.std.proofs.Common.{◌≡◌, ◌++◌, arith, ap, sym, ◌∙◌, ◌+◌, subst, length, length-append, slice_index_or}
+use Rattle.std.proofs.Common.{◌≡◌, ◌++◌, arith, ap, sym, ◌∙◌, ◌+◌, subst, length, slice_index_or}
 use Rattle.std.specs.Prelude.{reverse, ◌==◌}
 use Rattle.mh_flat.specs.declared.code.Extent.{Extent}
 use Rattle.mh_flat.specs.Flow.{IfStatement, Then, End, size, block_size}
@@ -9,7 +9,7 @@ use Rattle.mh_flat.specs.Extents.{HasAt, extent, front, extents_of, block_extent
 use Rattle.mh_flat.specs.Parts.{statement_of_parts}
 use Rattle.mh_flat.proofs.Bodies.{nestings_sizes}
 use Rattle.mh_flat.proofs.Measures.{after_one, has_front, else_block}
-use Rattle.mh_flat.proofs.Emission.{BlockEmitted, block_emitted_head, block_emitted_step, reverse_last, next_is, emit_count, length_block_instructions, entry_within, entry_is, ChainEmitted, has_yes, has_no, long_yes, chain_on, chain_done}
+use Rattle.mh_flat.proofs.Emission.{BlockEmitted, block_emitted_head, block_emitted_step, reverse_last, next_is, emit_count, entry_within, entry_is, ChainEmitted, has_yes, has_no, long_yes, chain_on, chain_done}
 use Rattle.mh_flat.proofs.emit.+emit.Goals as goal
 
 pub emit_block-bounds-extents-place : goal.emit_block-bounds-extents-place

@@ -1,16 +1,13 @@
-use Rattle.std.proofs.Common.{[]}
-use Rattle.mh_flat.specs.Flow.{block_items}
-use Rattle.mh_flat.specs.Body.{block_of}
 use Rattle.mh_flat.specs.contracts.tests.NumbersLang.TheImpl.{ghosts}
 use Rattle.mh_flat.proofs.Bodies.{fits_any}
 use Rattle.mh_flat.proofs.tests.answers.Goals as goal
 
 pub resume-answer-requires : goal.resume-answer-requires
-resume-answer-requires c =
+resume-answer-requires g c =
     (c.loop.invariant.0, c.loop.invariant.1, fits_any ghosts (λ e s. tt) (λ p e s. tt) (λ p s. tt) c.loop.invariant.0 c.loop.table)
 
 pub loop-preserved : goal.loop-preserved
-loop-preserved c =
+loop-preserved g c =
     let i = c.loop.invariant in
     let r = c.resume-answer.ensures i.0 i.1 (fits_any ghosts (λ e s. tt) (λ p e s. tt) (λ p s. tt) i.0 c.loop.table) in
     (r.rest, r.left)

@@ -6,4 +6,4 @@ use Rattle.mh_flat.proofs.tests.answers.Given as goal
 
 -- the state stands for some items
 abbrev pub invariant-loop : goal.invariant-loop
-invariant-loop l = (xs : List (Item Expression ℕ)) × StandsFor l.code xs l.state
+invariant-loop g l = (xs : List (Item Expression ℕ)) × StandsFor l.code xs l.state
