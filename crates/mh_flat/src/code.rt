@@ -7,6 +7,15 @@ pub struct Position {
     pub(crate) begun: bool,
 }
 
+/// The positions where a statement may lead: what follows it, and where a `Break` and a `Continue` in
+/// it go on.
+#[derive(Clone, Copy)]
+pub struct Exits {
+    pub(crate) after: Position,
+    pub(crate) leave: Position,
+    pub(crate) again: Position,
+}
+
 /// What an instruction does, with the positions where it may lead besides what follows it.
 #[derive(Drop)]
 pub enum Operation<L: Lang> {

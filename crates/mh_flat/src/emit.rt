@@ -6,7 +6,7 @@ ghost use Rattle.mh_flat.specs.Flat.{nesting, block_nesting, instructions_of, bl
 ghost use Rattle.mh_flat.specs.Extents.{HasAt, extent, extents_of, block_extents, else_extents};
 ghost use Rattle.mh_flat.specs.Parts.{statement_of_parts, IsNoIf};
 
-use crate::code::{Code, Extent, Instruction, Operation, Position};
+use crate::code::{Code, Exits, Extent, Instruction, Operation, Position};
 use crate::lang::Lang;
 use crate::step::{Parts, Step};
 use mh_text::Memory;
@@ -133,23 +133,20 @@ fn take_only<L: Lang>(block: &mut Vec<Step<L>>) -> Option<Step<L>>
     if block.len() == 1 { block.pop() } else { None }
 }
 
-/// Adds the instructions of a block, and answers how deep its counted loops are nested. `after`,
-/// `leave` and `again` are the positions that follow the block, a `Break` in it and a `Continue` in
-/// it, and `depth` says how many counted loops are around it.
+/// Adds the instructions of a block, and answers how deep its counted loops are nested. `depth`
+/// says how many counted loops are around it.
 #[cycle(emit)]
 fn emit_block<L: Lang>(
     instructions: &mut Vec<Instruction<L>>,
     extents: &[Extent],
     body: Vec<Step<L>>,
-    after: Position,
-    leave: Position,
-    again: Position,
+    exits: Exits,
     depth: usize,
 ) -> Result<usize, Memory>
     requires small { length instructions.old.items + block_size (block_of body.items) < 2 ^ 32 }
     requires deep { depth ≤ length instructions.old.items }
     requires has { HasAt extents.now (length instructions.old.items) (block_extents (block_of body.items)) }
-    ensures items { IfOk result (λ m. instructions.new.items ≡ instructions.old.items ++ block_instructions (block_of body.items) (length instructions.old.items) after leave again depth) }
+    ensures items { IfOk result (λ m. instructions.new.items ≡ instructions.old.items ++ block_instructions (block_of body.items) (length instructions.old.items) exits.after exits.leave exits.again depth) }
     ensures depth { IfOk result (λ m. m ≡ block_nesting (block_of body.items)) }
 {
     let mut rest = body;
@@ -158,8 +155,18 @@ fn emit_block<L: Lang>(
     while let Some(step) = rest.pop() {
         let place = instructions.len();
         let at = place + extents[place].whole;
-        let next = next_position(rest.is_empty(), at, after);
-        let inner = emit_step(instructions, extents, step, next, leave, again, depth)?;
+        let after = next_position(rest.is_empty(), at, exits.after);
+        let inner = emit_step(
+            instructions,
+            extents,
+            step,
+            Exits {
+                after,
+                leave: exits.leave,
+                again: exits.again,
+            },
+            depth,
+        )?;
         most = most.max(inner);
     }
     Ok(most)
@@ -172,15 +179,13 @@ fn emit_step<L: Lang>(
     instructions: &mut Vec<Instruction<L>>,
     extents: &[Extent],
     step: Step<L>,
-    after: Position,
-    leave: Position,
-    again: Position,
+    exits: Exits,
     depth: usize,
 ) -> Result<usize, Memory>
     requires small { length instructions.old.items + size (statement_of step) < 2 ^ 32 }
     requires deep { depth ≤ length instructions.old.items }
     requires has { (whole : ℕ) × HasAt extents.now (length instructions.old.items) (extents_of (statement_of step) whole) }
-    ensures items { IfOk result (λ m. instructions.new.items ≡ instructions.old.items ++ instructions_of (statement_of step) (length instructions.old.items) after leave again depth) }
+    ensures items { IfOk result (λ m. instructions.new.items ≡ instructions.old.items ++ instructions_of (statement_of step) (length instructions.old.items) exits.after exits.leave exits.again depth) }
     ensures depth { IfOk result (λ m. m ≡ nesting (statement_of step)) }
 {
     let mut most: usize = 0;
@@ -189,22 +194,14 @@ fn emit_step<L: Lang>(
         match current.into_parts() {
             Parts::If(test, then_part, mut else_part) => {
                 let place = instructions.len();
-                let then_start = start_of(&then_part, place + 1, after);
-                let else_start = start_of(&else_part, place + extents[place].front, after);
+                let then_start = start_of(&then_part, place + 1, exits.after);
+                let else_start = start_of(&else_part, place + extents[place].front, exits.after);
                 push_instruction(
                     instructions,
                     Operation::Branch(test, then_start, else_start),
-                    after,
+                    exits.after,
                 )?;
-                let then_depth = emit_block(
-                    instructions,
-                    extents,
-                    then_part,
-                    after,
-                    leave,
-                    again,
-                    depth,
-                )?;
+                let then_depth = emit_block(instructions, extents, then_part, exits, depth)?;
                 most = most.max(then_depth);
                 match take_only(&mut else_part) {
                     Some(only) => current = only,
@@ -213,9 +210,7 @@ fn emit_step<L: Lang>(
                             instructions,
                             extents,
                             else_part,
-                            after,
-                            leave,
-                            again,
+                            exits,
                             depth,
                         )?;
                         return Ok(most.max(else_depth));
@@ -223,7 +218,7 @@ fn emit_step<L: Lang>(
                 }
             }
             other => {
-                let inner = emit_other(instructions, extents, other, after, leave, again, depth)?;
+                let inner = emit_other(instructions, extents, other, exits, depth)?;
                 return Ok(most.max(inner));
             }
         }
@@ -236,16 +231,14 @@ fn emit_other<L: Lang>(
     instructions: &mut Vec<Instruction<L>>,
     extents: &[Extent],
     parts: Parts<L>,
-    after: Position,
-    leave: Position,
-    again: Position,
+    exits: Exits,
     depth: usize,
 ) -> Result<usize, Memory>
     requires other { IsNoIf parts }
     requires small { length instructions.old.items + size (statement_of_parts parts) < 2 ^ 32 }
     requires deep { depth ≤ length instructions.old.items }
     requires has { (whole : ℕ) × HasAt extents.now (length instructions.old.items) (extents_of (statement_of_parts parts) whole) }
-    ensures items { IfOk result (λ m. instructions.new.items ≡ instructions.old.items ++ instructions_of (statement_of_parts parts) (length instructions.old.items) after leave again depth) }
+    ensures items { IfOk result (λ m. instructions.new.items ≡ instructions.old.items ++ instructions_of (statement_of_parts parts) (length instructions.old.items) exits.after exits.leave exits.again depth) }
     ensures depth { IfOk result (λ m. m ≡ nesting (statement_of_parts parts)) }
 {
     let place = instructions.len();
@@ -253,16 +246,21 @@ fn emit_other<L: Lang>(
         at: place,
         begun: true,
     };
+    let inside = Exits {
+        after: here,
+        leave: exits.after,
+        again: here,
+    };
     match parts {
         Parts::Set(target, value) => {
-            push_instruction(instructions, Operation::Assign(target, value), after)?;
+            push_instruction(instructions, Operation::Assign(target, value), exits.after)?;
             Ok(0)
         }
         Parts::If(_, _, _) => unreachable!(),
         Parts::While(test, body) => {
             let first = start_of(&body, place + 1, here);
-            push_instruction(instructions, Operation::Repeat(test, first), after)?;
-            let inner = emit_block(instructions, extents, body, here, after, here, depth)?;
+            push_instruction(instructions, Operation::Repeat(test, first), exits.after)?;
+            let inner = emit_block(instructions, extents, body, inside, depth)?;
             Ok(inner)
         }
         Parts::Count(target, from, to, step, body) => {
@@ -270,33 +268,33 @@ fn emit_other<L: Lang>(
             push_instruction(
                 instructions,
                 Operation::Iterate(target, from, to, step, depth, first),
-                after,
+                exits.after,
             )?;
-            let inner = emit_block(instructions, extents, body, here, after, here, depth + 1)?;
+            let inner = emit_block(instructions, extents, body, inside, depth + 1)?;
             Ok(inner + 1)
         }
         Parts::Wait(what) => {
-            push_instruction(instructions, Operation::Suspend(what), after)?;
+            push_instruction(instructions, Operation::Suspend(what), exits.after)?;
             Ok(0)
         }
         Parts::Say(what) => {
-            push_instruction(instructions, Operation::Report(what), after)?;
+            push_instruction(instructions, Operation::Report(what), exits.after)?;
             Ok(0)
         }
         Parts::Check(test) => {
-            push_instruction(instructions, Operation::Assert(test), after)?;
+            push_instruction(instructions, Operation::Assert(test), exits.after)?;
             Ok(0)
         }
         Parts::Stop => {
-            push_instruction(instructions, Operation::Finish, after)?;
+            push_instruction(instructions, Operation::Finish, exits.after)?;
             Ok(0)
         }
         Parts::Break => {
-            push_instruction(instructions, Operation::Jump, leave)?;
+            push_instruction(instructions, Operation::Jump, exits.leave)?;
             Ok(0)
         }
         Parts::Continue => {
-            push_instruction(instructions, Operation::Jump, again)?;
+            push_instruction(instructions, Operation::Jump, exits.again)?;
             Ok(0)
         }
     }
@@ -315,8 +313,13 @@ pub fn flatten<L: Lang>(alloc: Global, body: Vec<Step<L>>) -> Result<Code<L>, Me
         at: extents.len(),
         begun: false,
     };
+    let exits = Exits {
+        after: end,
+        leave: end,
+        again: end,
+    };
     let mut instructions = Vec::new(alloc);
-    let depth = emit_block(&mut instructions, &extents, body, end, end, end, 0)?;
+    let depth = emit_block(&mut instructions, &extents, body, exits, 0)?;
     Ok(Code {
         instructions,
         depth,

@@ -8,14 +8,14 @@ use Rattle.mh_flat.proofs.emit.+emit.Given as goal
 
 abbrev pub invariant-emit_block-loop-step : goal.invariant-emit_block-loop-step
 invariant-emit_block-loop-step g l =
-    BlockEmitted l.extents l.fn.instructions.items l.fn.body.items l.after l.leave l.again l.depth l.instructions.items (reverse l.rest.items) l.most
+    BlockEmitted l.extents l.fn.instructions.items l.fn.body.items l.exits.after l.exits.leave l.exits.again l.depth l.instructions.items (reverse l.rest.items) l.most
 
 abbrev pub decreases-emit_block-loop-step : goal.decreases-emit_block-loop-step
 decreases-emit_block-loop-step g l = vec_len l.rest
 
 abbrev pub invariant-emit_step-loop-test : goal.invariant-emit_step-loop-test
 invariant-emit_step-loop-test g l =
-    ChainEmitted l.extents l.fn.instructions.items (statement_of l.fn.step) l.after l.leave l.again l.depth l.instructions.items (statement_of l.current) l.most
+    ChainEmitted l.extents l.fn.instructions.items (statement_of l.fn.step) l.exits.after l.exits.leave l.exits.again l.depth l.instructions.items (statement_of l.current) l.most
 
 abbrev pub decreases-emit_step-loop-test : goal.decreases-emit_step-loop-test
 decreases-emit_step-loop-test g l = size (statement_of l.current)
