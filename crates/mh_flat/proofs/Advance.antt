@@ -1,4 +1,4 @@
--- What an act leaves is what the rewriting leaves.
+-- What an instruction leaves is what the rewriting leaves.
 use Rattle.std.proofs.Common.{◌≡◌, ℕ, ◌+◌, ◌-◌, ◌<◌, ◌≤◌, ℤ, Bool, true, false, cond, List, [], ◌∷◌, length, Result, Ok, Err, refl, sym, ap, ◌∙◌, subst, arith, ◌⊎◌, inl, inr}
 use Rattle.std.specs.Prelude.{IsTrue}
 use Rattle.std.proofs.lemmas.List.{length-set}
@@ -127,7 +127,7 @@ module _ {L E P V S F : Type 0} (l : Ghosts L E P V S F) (laws : Laws l) (instru
   fails_at (BegunWhile i e b ∷ rest) s k f h = h
   fails_at (BegunCount i p n z w b ∷ rest) s k f h = h
 
-  -- the same place and store
+  -- the same configuration and store
   stays : (cs : List Counter) (xs : List (Item E P)) (g : Position) (n : ℕ) (s : S) (r : Resumed F) (p' : Configuration) (s' : S) → Stands instructions room cs xs g → FitsItems l xs s → machine.Stays l budget (record { position = g; counters = cs; count = n }) s p' s' → flow.Answers l budget r xs s n xs s' p'.count → Answered cs xs g n s r p' s'
   stays cs xs g n s r p' s' st fit h a =
       record { ys = xs; answers = a; stands = moved_to xs cs p'.counters g p'.position h.1 h.0 st; fits = fits_at xs s s' h.3 fit; long = ap length h.1; same = h.3 }

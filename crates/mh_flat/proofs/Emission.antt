@@ -71,7 +71,7 @@ module _ (L E P V S F : Type 0) where
       has_block instructions room b 0 g g g 0 (omega arith) (subst (λ x. HasAt instructions 0 x) e (has_all instructions))
 
 module _ {L E P V S F : Type 0} (extents : List Extent) (nodes0 : List (Instruction L E P V S F)) (body : List (Step L E P V S F)) (after leave again : Position) (d : ℕ) where
-  -- some statements' nodes are there, and the rest is still to come
+  -- some statements' instructions are there, and the rest is still to come
   pub record BlockEmitted (instructions : List (Instruction L E P V S F)) (rest : List (Step L E P V S F)) (most : ℕ) : Type 0 where
     pub items : instructions ++ block_instructions (block_of rest) (length instructions) after leave again d ≡ nodes0 ++ block_instructions (block_of body) (length nodes0) after leave again d
     pub long : length instructions + block_size (block_of rest) ≡ length nodes0 + block_size (block_of body)
@@ -162,7 +162,7 @@ entry_within xs k x ys h = slice_get_within xs k x h.0
 pub entry_is : {A : Type 0} (xs : List A) (k : ℕ) (x d : A) (ys : List A) → HasAt xs k (x ∷ ys) → get_or xs k d ≡ x
 entry_is xs k x d ys h = get_or_from_slice_get xs k x d h.0
 
--- the nodes of a chain of statements up to one of them
+-- the instructions of a chain of statements up to one of them
 module _ {L E P V S F : Type 0} (extents : List Extent) (nodes0 : List (Instruction L E P V S F)) (all : Statement E P) (after leave again : Position) (d : ℕ) where
   pub record ChainEmitted (instructions : List (Instruction L E P V S F)) (t : Statement E P) (most : ℕ) : Type 0 where
     pub items : instructions ++ instructions_of t (length instructions) after leave again d ≡ nodes0 ++ instructions_of all (length nodes0) after leave again d

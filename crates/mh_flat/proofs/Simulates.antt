@@ -1,4 +1,4 @@
--- What the code does at a goal mirrors the rewriting of the items that the goal stands for.
+-- What the code does at a position simulates the rewriting of the items that the position stands for.
 use Rattle.std.proofs.Common.{◌≡◌, ℕ, zero, suc, ◌+◌, ◌<◌, ◌≤◌, ℤ, ◌+ℤ◌, Bool, true, false, cond, List, [], ◌∷◌, length, Option, Some, None, Result, Ok, Err, refl, sym, ap, ◌∙◌, subst, arith, inr}
 use Rattle.std.specs.Prelude.{slice_get, slice_set, IsTrue}
 use Rattle.std.proofs.lemmas.Option.{slice_get_past}
@@ -28,7 +28,7 @@ get_set_below (y ∷ xs) zero j x h = absurd (omega arith)
 get_set_below (y ∷ xs) (suc i) zero x h = refl
 get_set_below (y ∷ xs) (suc i) (suc j) x h = get_set_below xs i j x (omega arith)
 
--- how many counted loops are around a goal that is a counted loop which has begun
+-- how many counted loops are around a position that is a counted loop which has begun
 abbrev operation_rank : {L E P V S F : Type 0} → Operation L E P V S F → Bool → ℕ
 operation_rank (Iterate p a z d depth b) true = suc depth
 operation_rank operation begun = 0
@@ -111,7 +111,7 @@ module _ {L E P V S F : Type 0} (instructions : List (Instruction L E P V S F)) 
       omega (arith, rank_is g k true _ _ h.0 h.2.7.1, h.2.7.0)
 
 module _ {L E P V S F : Type 0} (l : Ghosts L E P V S F) (instructions : List (Instruction L E P V S F)) (room : ℕ) where
-  -- a rewriting of what is left, and the act that does it
+  -- a rewriting of what is left, and the action that does it
   pub data Simulates (cs : List Counter) (xs : List (Item E P)) (g : Position) (s : S) : Outcome E P S F → Action E P V S F → Type 0 where
     moves : {ys : List (Item E P)} {g' : Position} → Stands instructions room cs ys g' → FitsItems l ys s → Simulates cs xs g s (Proceeds 1 ys s) (Moves 1 g')
     leaves : {ys : List (Item E P)} {g' : Position} → Stands instructions room cs ys g' → FitsItems l ys s → rank instructions g' < rank instructions g → Simulates cs xs g s (Proceeds 0 ys s) (Moves 0 g')
@@ -129,7 +129,7 @@ module _ {L E P V S F : Type 0} (l : Ghosts L E P V S F) (instructions : List (I
   simulates_value cs xs g s k (Ok x) go go' h = h x
   simulates_value cs xs g s k (Err f) go go' h = fails
 
-  -- the node at the goal
+  -- the instruction at the position
   at_instruction : (cs : List Counter) (xs : List (Item E P)) (g : Position) (s : S) (m : Outcome E P S F) (k : ℕ) (b : Bool) (operation : Operation L E P V S F) (after : Position) → g ≡ record { at = k; begun = b } → HasInstruction instructions room k operation after → Simulates cs xs g s m (operation_action l operation after (record { at = k; begun = b }) cs s) → Simulates cs xs g s m (action_at l (slice_get instructions g.at) g cs s)
   at_instruction cs xs g s m k b operation after e h r =
       let a : action_at l (slice_get instructions g.at) g cs s ≡ operation_action l operation after (record { at = k; begun = b }) cs s = ap (λ (x : Position). action_at l (slice_get instructions x.at) x cs s) e ∙ ap (λ o. action_at l o (record { at = k; begun = b }) cs s) h in
@@ -200,7 +200,7 @@ module _ {L E P V S F : Type 0} (l : Ghosts L E P V S F) (instructions : List (I
       let on : Simulates cs xs g s (rewriting l xs s) (machine.number_turn d' p (first (k + 1) b (begun k)) leave o z w) = simulates_number cs xs g s d' k p b rest (first (k + 1) b (begun k)) leave o n z w h.2.8.1 (turns (λ o' i. stand _ _ _ leave (begun k) (suc d') (does_block instructions room _ b (k + 1) (BegunCount k p (n +ℤ w) z w b ∷ rest) (begun k) leave (begun k) (suc d') hs.2 (refl, refl, (lv, ag, d', h.2.3, h.2.4, h.2.5, refl, hs, (o', i, get_set_same cs d' _ lt), does_set instructions room cs rest d' _ leave lv ag d' (omega arith) hr)))) (fits_todo l b (k + 1) (BegunCount k p (n +ℤ w) z w b ∷ rest) s fit.1 fit)) (leaves (stand cs rest leave lv ag d' hr) fit.2 (omega (arith, rank_depth instructions room cs rest leave lv ag d' hr, rank_is instructions room g k true _ _ h.0 hs.1))) in
       at_instruction cs _ g s _ k true _ leave h.0 hs.1 (subst (λ c. Simulates cs xs g s (rewriting l xs s) (machine.counter_turn d' p (first (k + 1) b (begun k)) leave c)) (sym h.2.8.2) on)
 
-  -- what is asked of the node at a goal that has begun or not
+  -- what is asked of the instruction at a position
   on_instruction : (g : Position) (k : ℕ) (b : Bool) (operation : Operation L E P V S F) (after : Position) (Q : Bool → Operation L E P V S F → Type 0) → g ≡ record { at = k; begun = b } → HasInstruction instructions room k operation after → Q b operation → machine.OnInstruction (slice_get instructions g.at) (Q g.begun)
   on_instruction g k b operation after Q e h q =
       subst (λ (x : Position). machine.OnInstruction (slice_get instructions x.at) (Q x.begun)) (sym e) (subst (λ o. machine.OnInstruction o (Q b)) (sym h) q)

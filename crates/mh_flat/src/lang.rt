@@ -50,31 +50,35 @@ pub trait Lang {
     ghost fits_count: { Self.Place → Self.Store → Type 0 };
 
     /// The value of an expression that fits the store, or its fault.
-    fn eval(e: &Self::Expr, s: &Self::Store) -> Result<Self::Value, Self::Fault>
-        requires { fits_expr e.now s.now }
-        ensures { result ≡ value_of e.now s.now };
+    fn eval(expression: &Self::Expr, store: &Self::Store) -> Result<Self::Value, Self::Fault>
+        requires { fits_expr expression.now store.now }
+        ensures { result ≡ value_of expression.now store.now };
 
     /// Whether a value is true.
-    fn truth(v: &Self::Value) -> bool
-        ensures { result ≡ is_true v.now };
+    fn truth(value: &Self::Value) -> bool
+        ensures { result ≡ is_true value.now };
 
     /// The number that a value stands for.
-    fn number(v: &Self::Value) -> i128
-        ensures { result ≡ number_of v.now };
+    fn number(value: &Self::Value) -> i128
+        ensures { result ≡ number_of value.now };
 
     /// Assigns to a place the value that an expression has, where both fit the store. After a
     /// fault the store is as it was. Want of memory may come anywhere; no other fault comes but by
     /// the language's meaning.
-    fn assign(p: &Self::Place, v: Self::Value, s: &mut Self::Store) -> Result<(), Self::Fault>
-        requires { (e : Self.Expr) × fits_set p.now e s.old × (value_of e s.old ≡ Ok v) }
-        ensures ok { IfOk result (λ _. assigned p.now v s.old ≡ Ok s.new) }
-        ensures fault { IfErr result (λ f. Unless (is_memory f) (assigned p.now v s.old ≡ Err f)) }
-        ensures unchanged { OnErr result (s.new ≡ s.old) };
+    fn assign(
+        place: &Self::Place,
+        value: Self::Value,
+        store: &mut Self::Store,
+    ) -> Result<(), Self::Fault>
+        requires { (expression : Self.Expr) × fits_set place.now expression store.old × (value_of expression store.old ≡ Ok value) }
+        ensures ok { IfOk result (λ _. assigned place.now value store.old ≡ Ok store.new) }
+        ensures fault { IfErr result (λ fault. Unless (is_memory fault) (assigned place.now value store.old ≡ Err fault)) }
+        ensures unchanged { OnErr result (store.new ≡ store.old) };
 
     /// Gives a place the number of a counted loop.
-    fn count(p: &Self::Place, n: i128, s: &mut Self::Store)
-        requires { fits_count p.now s.old }
-        ensures { s.new ≡ counted p.now n s.old };
+    fn count(place: &Self::Place, number: i128, store: &mut Self::Store)
+        requires { fits_count place.now store.old }
+        ensures { store.new ≡ counted place.now number store.old };
 
     /// What fits a store fits it after an assignment.
     ghost assign_keeps: { (p : Self.Place) (v : Self.Value) (s s' : Self.Store) → assigned p v s ≡ Ok s' → Keeps fits_expr fits_set fits_count s s' };

@@ -61,14 +61,14 @@ impl Lang for Numbers {
 
     ghost count_keeps = { λ p n s. record { exprs = λ e f. f; sets = λ q e f. f; counts = λ q f. f } };
 
-    fn eval(e: &Expression, s: &Table) -> Result<i128, u8> {
-        let cell = s.cells[e.cell % 4];
-        if e.kind == 0 {
-            Ok(e.number)
-        } else if e.kind == 1 {
+    fn eval(expression: &Expression, store: &Table) -> Result<i128, u8> {
+        let cell = store.cells[expression.cell % 4];
+        if expression.kind == 0 {
+            Ok(expression.number)
+        } else if expression.kind == 1 {
             Ok(cell)
-        } else if e.kind == 2 {
-            Ok(if cell < e.number { 1 } else { 0 })
+        } else if expression.kind == 2 {
+            Ok(if cell < expression.number { 1 } else { 0 })
         } else if cell < 0 {
             Err(0)
         } else {
@@ -76,28 +76,28 @@ impl Lang for Numbers {
         }
     }
 
-    fn truth(v: &i128) -> bool {
-        *v > 0
+    fn truth(value: &i128) -> bool {
+        *value > 0
     }
 
-    fn number(v: &i128) -> i128 {
-        *v
+    fn number(value: &i128) -> i128 {
+        *value
     }
 
     /// Above 1,000 it answers want of memory.
-    fn assign(p: &usize, v: i128, s: &mut Table) -> Result<(), u8> {
-        if v < -100 {
+    fn assign(place: &usize, value: i128, store: &mut Table) -> Result<(), u8> {
+        if value < -100 {
             Err(1)
-        } else if v > 1000 {
+        } else if value > 1000 {
             Err(2)
         } else {
-            s.cells[*p % 4] = v;
+            store.cells[*place % 4] = value;
             Ok(())
         }
     }
 
-    fn count(p: &usize, n: i128, s: &mut Table) {
-        s.cells[*p % 4] = n;
+    fn count(place: &usize, number: i128, store: &mut Table) {
+        store.cells[*place % 4] = number;
     }
 }
 
