@@ -1,0 +1,9 @@
+pub mod Simulates
+pub mod Advance
+pub mod Turns
+pub mod Bodies
+pub mod Measures
+pub mod Emission
+pub mod Begin
+pub mod Determinism
+pub mod Existence
