@@ -3,10 +3,10 @@
 
     gates_with_peers.py ROOT
 
-ROOT is the top of the repository, whose script `myhdl` converts one source for each expression. Each
-text must be taken by Icarus Verilog, Verilator and Yosys, and for all values of the ports Icarus must give
-the output that Python gives the expression. A tool that is not installed is skipped and named. Ends with
-status 0 where nothing differs.
+ROOT is the top of the repository, whose script `myhdl` converts `examples/and.py` with each of the
+expressions in the place of its own. Each text must be taken by Icarus Verilog, Verilator and Yosys,
+and for all values of the ports Icarus must give the output that Python gives the expression. A tool
+that is not installed is skipped and named. Ends with status 0 where nothing differs.
 """
 import itertools
 import os
@@ -15,21 +15,8 @@ import subprocess
 import sys
 import tempfile
 
-EXPRESSIONS = ["a", "not a", "a & b", "a | b", "a ^ b", "b & a", "b ^ b"]
-SOURCE = """from myhdl import *
-
-@block
-def gate(y, a, b):
-    @always_comb
-    def logic():
-        y.next = {expression}
-    return logic
-y = Signal(bool(0))
-a = Signal(bool(0))
-b = Signal(bool(0))
-g = gate(y, a, b)
-g.convert(hdl='Verilog')
-"""
+EXPRESSIONS = ["a & b", "a", "not a", "a | b", "a ^ b", "b & a", "b ^ b"]
+ASSIGNMENT = "y.next = "
 BENCH = """module bench;
 reg a, b;
 wire y;
@@ -49,7 +36,10 @@ LINTERS = {
 def main():
     if len(sys.argv) != 2:
         sys.exit(__doc__)
-    program = os.path.join(os.path.abspath(sys.argv[1]), "myhdl")
+    root = os.path.abspath(sys.argv[1])
+    program = os.path.join(root, "myhdl")
+    with open(os.path.join(root, "examples", "and.py"), encoding="ascii") as file:
+        before, after = file.read().split(ASSIGNMENT + EXPRESSIONS[0] + "\n")
     tools = [tool for tool in ["iverilog", *LINTERS] if shutil.which(tool)]
     for tool in sorted({"iverilog", *LINTERS} - set(tools)):
         print(f"{tool} is not installed: skipped")
@@ -61,7 +51,7 @@ def main():
 
         for expression in EXPRESSIONS:
             with open(os.path.join(folder, "gate.py"), "w", encoding="ascii") as file:
-                file.write(SOURCE.format(expression=expression))
+                file.write(before + ASSIGNMENT + expression + "\n" + after)
             converted = run(program, "convert", "gate.py", "--verilog", "gate.v")
             if converted.returncode != 0:
                 sys.exit(f"{expression}: status {converted.returncode}: {converted.stderr}")
