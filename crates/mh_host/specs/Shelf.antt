@@ -19,6 +19,10 @@ pub record Counts : Type 0 where
   pub print : ℕ
   pub complain : ℕ
 
+-- No call has failed.
+abbrev pub no_faults : Counts
+no_faults = record { fetch = 0; store = 0; print = 0; complain = 0 }
+
 -- A count rose, or stands at its end, where it can't rise.
 abbrev pub Rose : ℕ → ℕ → Type 0
 Rose before now = min (before + 1) (2 ^ 64 - 1) ≤ now

@@ -1,5 +1,6 @@
 ghost use Rattle.std.specs.Prelude.{◌≡◌, ◌+◌, ◌<◌, ◌≤◌, vec_len, IfOk};
-ghost use Rattle.mh_host.specs.Shelf.{IsWithin};
+ghost use Rattle.mh_host.specs.OtherShelves.{file_counts};
+ghost use Rattle.mh_host.specs.Shelf.{IsWithin, no_faults};
 
 use crate::count::raise;
 use crate::shelf::{Failed, Fetched, Shelf, ShelfError};
@@ -92,7 +93,9 @@ fn write_whole<W: Write>(writer: &mut W, bytes: &[u8]) -> Result<(), Failed> {
 
 impl<R: Files, O: Write, E: Write> FileShelf<R, O, E> {
     /// A shelf over these files, with the standard output and the standard error.
-    pub fn new(rt: R, output: O, errors: E) -> FileShelf<R, O, E> {
+    pub fn new(rt: R, output: O, errors: E) -> FileShelf<R, O, E>
+        ensures { file_counts result ≡ no_faults }
+    {
         FileShelf {
             rt,
             output,

@@ -1,8 +1,8 @@
-ghost use Rattle.std.specs.Prelude.{◌≡◌, [], ℕ, List, true, is_ok, OnOk, OnErr};
+ghost use Rattle.std.specs.Prelude.{◌≡◌, ◌++◌, ◌∷◌, [], ℕ, List, true, is_ok, OnOk, OnErr};
 ghost use Rattle.std.specs.Option.{option_copied};
 ghost use Rattle.mh_host.specs.Entries.{Puts, MayPutFront};
-ghost use Rattle.mh_host.specs.MemShelf.{told_by, counted_by};
-ghost use Rattle.mh_host.specs.Shelf.{Appends, Stores};
+ghost use Rattle.mh_host.specs.MemShelf.{told_by, counted_by, failing};
+ghost use Rattle.mh_host.specs.Shelf.{Appends, no_faults, Stores};
 
 use crate::count::raise;
 use crate::entries::{Entry, find, place};
@@ -98,6 +98,8 @@ impl MemShelf {
         ensures empty { (name : List ℕ) → (told_by result).holds name ≡ None }
         ensures printed { (told_by result).printed ≡ [] }
         ensures complained { (told_by result).complained ≡ [] }
+        ensures counts { counted_by result ≡ no_faults }
+        ensures failing { failing result ≡ [] }
     {
         MemShelf {
             alloc,
@@ -124,6 +126,8 @@ impl MemShelf {
 
     /// Lets one more call fail.
     pub fn fail(&mut self, fault: Fault) -> Result<(), Memory>
+        ensures ok { OnOk result (failing self.new ≡ failing self.old ++ fault ∷ []) }
+        ensures err { OnErr result (failing self.new ≡ failing self.old) }
         ensures seen { told_by self.new ≡ told_by self.old }
         ensures counts { counted_by self.new ≡ counted_by self.old }
     {

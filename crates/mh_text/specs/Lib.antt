@@ -1,1 +1,4 @@
 pub mod Code
+pub mod Characters
+pub mod Rows
+pub mod Decimal

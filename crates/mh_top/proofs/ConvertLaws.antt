@@ -5,13 +5,15 @@ use Rattle.std.specs.declared.alloc.Global.{Global}
 use Rattle.std.specs.declared.vec.Vec.{Vec}
 use Rattle.mh_host.specs.Shelf.{Counted, Counts, Finds, HeldAfter, IsFront, IsPortion, Rose, Seen, Stores, Told}
 use Rattle.mh_host.specs.declared.shelf.Fetched.TheVariants.{Whole, TooLong}
+use Rattle.mh_text.specs.declared.code.Code.{Code}
 use Rattle.mh_text.specs.declared.memory.Memory.{Memory}
 use Rattle.mh_top.proofs.RunLaws.{told_as, told_then, told_with}
-use Rattle.mh_top.proofs.WordLaws.{same_file}
+use Rattle.mh_top.proofs.WordLaws.{same_file, same_out}
 use Rattle.mh_top.specs.Commands.{Completes, Ends}
 use Rattle.mh_top.specs.Convert.{ConvertEnds, done, refused, unfetched, unstored, no_memory, too_long, ConvertCompletes, HasConverted, HasFoundTooLong, HasRefused, HasStoredInPart, StatusFits}
 use Rattle.mh_top.specs.Emission.{module_of}
-use Rattle.mh_top.specs.Lines.{memory_line, shelf_line, too_long_line}
+use Rattle.mh_top.specs.Lines.{memory_line, refusal_line, shelf_line, too_long_line}
+use Rattle.mh_top.specs.Source.{IsRefusedFor, SpellsNone}
 use Rattle.mh_top.specs.Run.{Complained, Complains, HasFailedFetch, IsFaultFree, OnlyComplains, Run, SameNames}
 use Rattle.mh_top.specs.Steps.{EndsSource, IsTextOf, SourceEnds, StoresText}
 use Rattle.mh_top.specs.Steps as step
@@ -80,27 +82,27 @@ module _ (file out source : List ℕ) (run : Run) (status : ℕ) (line : List �
       done p q f (told_with (Holding file source) (StoresText true source out) (HasConverted file out) run.before run.after holding
       (λ a b h s. record {
         design = s.design;
-        source = record { source = source; held = h.1 ∙ ap Some h.2.1; within = within; spelled = s.spelled };
+        source = record { source = source; held = h.1 ∙ ap Some h.2.1; within = within; spelled = s.spelled.0; only = s.spelled.1 };
         stored = s.stored;
         values = s.values;
         others = s.others;
       }) told)
-  lifted (step.refused p q f none kept) =
-      refused p q f (told_with (Holding file source) SameNames (HasRefused file) run.before run.after holding
-      (λ a b h s. record { source = source; held = h.1 ∙ ap Some h.2.1; within = within; none = none; names = s }) kept)
+  lifted (step.refused code number p q f cause none kept) =
+      refused code number p q f (told_with (Holding file source) SameNames (HasRefused file code number) run.before run.after holding
+      (λ a b h s. record { source = source; held = h.1 ∙ ap Some h.2.1; within = within; cause = cause; none = none; names = s }) kept)
   lifted (step.unstored p q f told) =
       unstored p q f (told_with (Holding file source) (StoresText false source out) (HasStoredInPart file out) run.before run.after holding
       (λ a b h s. record {
         design = s.design;
-        source = record { source = source; held = h.1 ∙ ap Some h.2.1; within = within; spelled = s.spelled };
+        source = record { source = source; held = h.1 ∙ ap Some h.2.1; within = within; spelled = s.spelled.0; only = s.spelled.1 };
         stored = s.stored;
         others = s.others;
       }) told)
   lifted (step.no_memory p q f kept) = no_memory p q (inl f) kept
 
   fits : SourceEnds source out run status line → (Rose run.faults_before.store run.faults_after.store → ⊥) → StatusFits source status
-  fits (step.done p q f d spelled told) quiet = record { converted = λ d w s. inl p; refused = λ w none. absurd (none d spelled); too_long = λ beyond. absurd (omega arith) }
-  fits (step.refused p q f none kept) quiet = record { converted = λ d w s. absurd (none d s); refused = λ w n. inl p; too_long = λ beyond. absurd (omega arith) }
+  fits (step.done p q f d spelled told) quiet = record { converted = λ d w s. inl p; refused = λ w none. absurd (none d spelled.0); too_long = λ beyond. absurd (omega arith) }
+  fits (step.refused code number p q f cause none kept) quiet = record { converted = λ d w s. absurd (none d s); refused = λ w n. inl p; too_long = λ beyond. absurd (omega arith) }
   fits (step.unstored p q f told) quiet = absurd (quiet f.store)
   fits (step.no_memory p q f kept) quiet = record { converted = λ d w s. inr p; refused = λ w n. inr p; too_long = λ beyond. inr p }
 
@@ -203,7 +205,7 @@ never_words file out run status ends is = by ends.0 ends.1
 
     by : (line : List ℕ) → ConvertEnds file out run status line → ⊥
     by line (done p q f told) = differ DONE p refl
-    by line (refused p q f told) = differ REFUSED p refl
+    by line (refused code number p q f told) = differ REFUSED p refl
     by line (unfetched p q f kept) = differ SHELF p refl
     by line (unstored p q f told) = differ SHELF p refl
     by line (no_memory p q f kept) = differ MEMORY p refl
@@ -213,3 +215,15 @@ never_words file out run status ends is = by ends.0 ends.1
 pub completes_as : (words : List (List ℕ)) (file out : List ℕ) (run : Run) (status : ℕ) → IsConvert words file out → ConvertCompletes file run status → (command : Command) → Gives words command → Completes command run status
 completes_as words file out run status one completes (Convert file' out') other =
     subst (λ (name : List ℕ). ConvertCompletes name run status) (same_file words file out file' out' one other) completes
+
+-- how the command ends, said of each command that the words give
+pub ends_as : (words : List (List ℕ)) (file out : List ℕ) (run : Run) (status : ℕ) → IsConvert words file out → Ends (Convert file out) run status → (command : Command) → Gives words command → Ends command run status
+ends_as words file out run status one ends (Convert file' out') other =
+    subst (λ (name : List ℕ). Ends (Convert file' name) run status) (same_out words file out file' out' one other)
+    (subst (λ (name : List ℕ). Ends (Convert name out) run status) (same_file words file out file' out' one other) ends)
+
+-- the source is refused
+pub source_refused : (source out line said : List ℕ) (code : Code) (number : ℕ) (run : Run) (status : ℕ) → IsRefusedFor source code number → SpellsNone source → line ≡ refusal_line code number → said ≡ line → status ≡ REFUSED → OnlyComplains said run → EndsSource source out run status
+source_refused source out line said code number run status cause none is same code_is h =
+    let here = subst (λ (text : List ℕ). OnlyComplains text run) (same ∙ is) h in
+    (refusal_line code number, step.refused code number code_is refl here.faults cause none here.names, here.complaint)

@@ -1,7 +1,5 @@
 pub mod Written
-pub mod CutLemmas
-pub mod Lacks
-pub mod GateLaws
+pub mod SourceLaws
 pub mod WordLaws
 pub mod RunLaws
 pub mod ConvertLaws

@@ -75,3 +75,9 @@ pub same_file : (words : List (List ℕ)) (file out file' out' : List ℕ) → I
 same_file words file out file' out' one other =
     let same : codes "convert" ∷ file ∷ codes "--verilog" ∷ out ∷ [] ≡ codes "convert" ∷ file' ∷ codes "--verilog" ∷ out' ∷ [] = sym one.spelled ∙ other.spelled in
     cc
+
+-- and one name to store under
+pub same_out : (words : List (List ℕ)) (file out file' out' : List ℕ) → IsConvert words file out → IsConvert words file' out' → out ≡ out'
+same_out words file out file' out' one other =
+    let same : codes "convert" ∷ file ∷ codes "--verilog" ∷ out ∷ [] ≡ codes "convert" ∷ file' ∷ codes "--verilog" ∷ out' ∷ [] = sym one.spelled ∙ other.spelled in
+    cc

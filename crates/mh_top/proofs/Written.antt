@@ -1,7 +1,7 @@
 -- Facts on texts that loops write.
 use Rattle.std.proofs.Common.{ℕ, List, [], ◌∷◌, ◌++◌, ◌≡◌, ◌+◌, ◌<◌, length, map, take, drop, get_or, refl, sym, ap, ◌∙◌, append_assoc, append-nil, arith, length-drop}
 use Rattle.std.specs.List.{flat_map}
-use Rattle.mh_design.specs.declared.design.Design.{Design}
+use Rattle.mh_gate.specs.declared.design.Design.{Design}
 use Rattle.mh_top.specs.Emission.{port_of}
 use Rattle.mh_top.specs.Pieces.{name_in}
 use Rattle.mh_top.specs.VerilogText.{section, Port}

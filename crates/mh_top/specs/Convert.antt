@@ -1,12 +1,12 @@
 -- How `convert FILE --verilog OUT` ends. These rules are this project's own.
 use Rattle.std.specs.Prelude.{ℕ, List, [], ◌≡◌, ◌≢◌, ◌⊎◌, ◌^◌, ◌<◌, ◌≤◌, Some, IfSome, false, length}
-use Rattle.mh_design.specs.declared.design.Design.{Design}
+use Rattle.mh_gate.specs.declared.design.Design.{Design}
 use Rattle.mh_host.specs.Shelf.{Seen, Rose, Told, HeldAfter}
-use Rattle.mh_text.specs.declared.code.Code.TheVariants.{N1NotYet}
+use Rattle.mh_text.specs.declared.code.Code.{Code}
 use Rattle.mh_top.specs.Emission.{KeepsValues, module_of}
-use Rattle.mh_top.specs.Gate.{Spells}
 use Rattle.mh_top.specs.Lines.{memory_line, refusal_line, shelf_line, too_long_line}
 use Rattle.mh_top.specs.Run.{Run, IsFaultFree, HasFailedFetch, HasFailedStore, SameNames, KeepsNames}
+use Rattle.mh_top.specs.Source.{IsRefusedFor, Spells, SpellsNone}
 use Rattle.mh_top.specs.VerilogText.{text}
 use Rattle.mh_top.specs.declared.status.TheConstants.Status.{DONE, REFUSED, SHELF, MEMORY, TOO_LONG}
 
@@ -14,16 +14,13 @@ use Rattle.mh_top.specs.declared.status.TheConstants.Status.{DONE, REFUSED, SHEL
 abbrev pub IsWithinLimit : List ℕ → Type 0
 IsWithinLimit source = length source ≤ 2 ^ 20
 
--- A source spells no design that is converted.
-abbrev pub SpellsNone : List ℕ → Type 0
-SpellsNone source = (d : Design) → Spells source d → ⊥
-
--- The file holds a source within the limit that spells this design.
+-- The file holds a source within the limit that spells this design and no other.
 pub record HoldsDesign (file : List ℕ) (d : Design) (before : Seen) : Type 0 where
   pub source : List ℕ
   pub held : before.holds file ≡ Some source
   pub within : IsWithinLimit source
   pub spelled : Spells source d
+  pub only : (other : Design) → Spells source other → other ≡ d
 
 -- Every name but one holds what it held.
 abbrev pub OthersSame : List ℕ → Seen → Seen → Type 0
@@ -44,11 +41,12 @@ pub record HasStoredInPart (file out : List ℕ) (before after : Seen) : Type 0 
   pub stored : HeldAfter false (text (module_of design)) (before.holds out) (after.holds out)
   pub others : OthersSame out before after
 
--- The file holds a source within the limit that spells no design, and no name changed.
-pub record HasRefused (file : List ℕ) (before after : Seen) : Type 0 where
+-- The file holds a source within the limit that is refused for this code and line and spells no design, and no name changed.
+pub record HasRefused (file : List ℕ) (code : Code) (line : ℕ) (before after : Seen) : Type 0 where
   pub source : List ℕ
   pub held : before.holds file ≡ Some source
   pub within : IsWithinLimit source
+  pub cause : IsRefusedFor source code line
   pub none : SpellsNone source
   pub names : SameNames before after
 
@@ -64,8 +62,8 @@ pub record HasFoundTooLong (file : List ℕ) (before after : Seen) : Type 0 wher
 pub data ConvertEnds (file out : List ℕ) (run : Run) (status : ℕ) (line : List ℕ) : Type 0 where
   -- the text is stored, and no call failed
   done : status ≡ DONE → line ≡ [] → IsFaultFree run → Told (HasConverted file out) run.before run.after → ConvertEnds file out run status line
-  -- the source is of no form that is converted
-  refused : status ≡ REFUSED → line ≡ refusal_line N1NotYet 0 → IsFaultFree run → Told (HasRefused file) run.before run.after → ConvertEnds file out run status line
+  -- the source has no tokens or no tree, or is of no form that is converted
+  refused : (code : Code) (number : ℕ) → status ≡ REFUSED → line ≡ refusal_line code number → IsFaultFree run → Told (HasRefused file code number) run.before run.after → ConvertEnds file out run status line
   -- the source wasn't fetched
   unfetched : status ≡ SHELF → line ≡ shelf_line file → HasFailedFetch run → KeepsNames run → ConvertEnds file out run status line
   -- the text wasn't stored

@@ -1,13 +1,13 @@
 -- Which Verilog module a design is converted to, and that its right sides keep their values. These rules are this project's own.
 use Rattle.std.specs.Prelude.{ℕ, List, ◌≡◌, Bool, true, false, Some, map, length, slice_get}
-use Rattle.mh_design.specs.declared.design.Design.{Design}
-use Rattle.mh_design.specs.declared.design.GStmt.{GStmt}
-use Rattle.mh_design.specs.declared.design.GStmt.TheVariants.{Assign}
-use Rattle.mh_design.specs.declared.design.SignalDecl.{SignalDecl}
-use Rattle.mh_design.specs.declared.expression.GExpr.{GExpr}
-use Rattle.mh_design.specs.declared.expression.GExpr.TheVariants as source
-use Rattle.mh_design.specs.Design.{statements, is_driven}
-use Rattle.mh_design.specs.Value.{value, number_of}
+use Rattle.mh_gate.specs.declared.design.Design.{Design}
+use Rattle.mh_gate.specs.declared.design.GStmt.{GStmt}
+use Rattle.mh_gate.specs.declared.design.GStmt.TheVariants.{Assign}
+use Rattle.mh_gate.specs.declared.design.SignalDecl.{SignalDecl}
+use Rattle.mh_gate.specs.declared.expression.GExpr.{GExpr}
+use Rattle.mh_gate.specs.declared.expression.GExpr.TheVariants as source
+use Rattle.mh_gate.specs.Design.{statements, is_driven}
+use Rattle.mh_gate.specs.Value.{value, number_of}
 use Rattle.mh_top.specs.VerilogText.{Module, Port, Assignment}
 use Rattle.mh_top.specs.VerilogValue.{Bit, Zero, One, Unknown, Expression, Variable, LogicalNot, BitwiseAnd, BitwiseOr, BitwiseXor, evaluated}
 

@@ -1,14 +1,11 @@
 pub mod CommandOf
 pub mod Commands
 pub mod Convert
-pub mod Cuts
 pub mod Emission
-pub mod Gate
 pub mod Lines
-pub mod Names
 pub mod Pieces
-pub mod Reading
 pub mod Run
+pub mod Source
 pub mod Steps
 pub mod VerilogText
 pub mod VerilogValue

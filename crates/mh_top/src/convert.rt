@@ -1,13 +1,13 @@
 //! The command `convert FILE --verilog OUT`.
 
-ghost use Rattle.std.specs.Prelude.{◌≡◌, IfOk};
+ghost use Rattle.std.specs.Prelude.{◌≡◌, ◌<◌, ◌^◌, length, IfOk};
 ghost use Rattle.mh_top.specs.Commands.{Completes, Ends};
 ghost use Rattle.mh_top.specs.Steps.{EndsSource, IsPrepared};
 ghost use Rattle.mh_top.specs.Words.{Convert};
 
 use crate::complaint::{complain, complain_of, complain_of_memory};
 use crate::status::Status;
-use crate::{gate, lines, vlog};
+use crate::{lines, source, vlog};
 use mh_host::{Fetched, Shelf, ShelfError};
 use mh_text::{Memory, Refusal, Text};
 use std::alloc::Global;
@@ -26,9 +26,10 @@ pub(crate) enum Step {
 
 /// What is to be done for a source, with all that it needs of memory.
 fn prepare(alloc: Global, source: &[u8], out: &Text) -> Result<Step, Memory>
+    requires { length source.now < 2 ^ 31 }
     ensures { IfOk result (IsPrepared source.now out.now) }
 {
-    match gate::read(alloc, source) {
+    match source::read(alloc, source) {
         Ok(design) => {
             let text = vlog::text(alloc, &design)?;
             let fault = lines::of_shelf(alloc, out)?;
@@ -50,7 +51,8 @@ fn prepare(alloc: Global, source: &[u8], out: &Text) -> Result<Step, Memory>
 
 /// Converts a source that was fetched, and stores its text.
 fn convert_source<S: Shelf>(alloc: Global, source: &[u8], out: &Text, shelf: &mut S) -> Status
-    requires { S.may_store out.now }
+    requires out { S.may_store out.now }
+    requires small { length source.now < 2 ^ 31 }
     ensures { EndsSource source.now out.now (record { before = S.seen shelf.old; after = S.seen shelf.new; faults_before = S.counts shelf.old; faults_after = S.counts shelf.new }) result.code }
 {
     match prepare(alloc, source, out) {

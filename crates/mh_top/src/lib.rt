@@ -7,10 +7,8 @@ mod command;
 mod commands;
 mod complaint;
 mod convert;
-mod cuts;
-mod gate;
 mod lines;
-mod names;
+mod source;
 mod status;
 #[cfg(test)]
 mod tests;

@@ -90,42 +90,72 @@ fn gates_are_converted(rt: HostRuntime) -> Result<(), Fail> {
 }
 
 #[test]
+fn spelling_is_free(rt: HostRuntime) -> Result<(), Fail> {
+    let text = text(rt.alloc(), "(a & b)")?;
+    let source =
+        b"# a gate\r\nfrom myhdl import *\n@block # the block\ndef gate ( y,a,\n  b, ) :\n  @always_comb\n\n  def logic(): y.next = ((a)&\\\n b)\n  return (logic)\ny=Signal(bool(0x0));a = Signal( bool(0b0) )\nb = (Signal)(bool(0))\ng = gate(y, a, b,)\ng.convert(hdl = \"\"\"Verilog\"\"\")";
+    let mut shelf = shelf(rt.alloc(), source, &[])?;
+    assert_eq!(rt; convert(rt.alloc(), &mut shelf)?, 0);
+    assert!(rt; holds(&shelf, b"v", text.as_slice()));
+    Ok(())
+}
+
+#[test]
 fn other_sources_are_refused(rt: HostRuntime) -> Result<(), Fail> {
-    let whole = source(rt.alloc(), "a & b")?;
     let long = source(rt.alloc(), "a & b & c")?;
     let target = source(rt.alloc(), "a & y")?;
     let unknown = source(rt.alloc(), "a & c")?;
-    let spaced = source(rt.alloc(), "a  & b")?;
-    let cut = whole.len().saturating_sub(1);
-    for (name, source) in [
-        ("three operands", long.as_slice()),
-        ("the target is read", target.as_slice()),
-        ("an unknown name", unknown.as_slice()),
-        ("two spaces", spaced.as_slice()),
-        ("no end of the last line", &whole.as_slice()[..cut]),
-        ("an empty file", b""),
-        ("a file of one line", b"from myhdl import *\n"),
+    let not_yet = b"error N1 NotYet line 0\n".as_slice();
+    let mut deep = Vec::from_slice(rt.alloc(), b"x = ")?;
+    for _turn in 0..300 {
+        deep.extend_from_slice(b"not ")?;
+    }
+    deep.extend_from_slice(b"True\ny = 1\n")?;
+    for (source, line) in [
+        (long.as_slice(), not_yet),
+        (target.as_slice(), not_yet),
+        (unknown.as_slice(), not_yet),
+        (b"", not_yet),
+        (b"from myhdl import *\n", not_yet),
         (
-            "one port",
+            // one port
             b"from myhdl import *\n\n@block\ndef gate(y):\n    @always_comb\n    def logic():\n        y.next = y\n    return logic\ny = Signal(bool(0))\ng = gate(y)\ng.convert(hdl='Verilog')\n",
+            not_yet,
         ),
         (
-            "an avoided name",
+            // an avoided name
             b"from myhdl import *\n\n@block\ndef gate(reg, a):\n    @always_comb\n    def logic():\n        reg.next = a\n    return logic\nreg = Signal(bool(0))\na = Signal(bool(0))\ng = gate(reg, a)\ng.convert(hdl='Verilog')\n",
+            not_yet,
         ),
         (
-            "two equal names",
+            // two equal names
             b"from myhdl import *\n\n@block\ndef gate(y, a):\n    @always_comb\n    def gate():\n        y.next = a\n    return gate\ny = Signal(bool(0))\na = Signal(bool(0))\ng = gate(y, a)\ng.convert(hdl='Verilog')\n",
+            not_yet,
+        ),
+        (b"x = $", b"error L1 BadByte line 1\n"),
+        (b"\tx = 1", b"error L2 TabIndent line 1\n"),
+        (
+            b"if True:\n    x = 1\n  y = 2",
+            b"error L3 BadDedent line 3\n",
+        ),
+        (b"x = 'a", b"error L4 OpenString line 1\n"),
+        (b"x = 007", b"error L5 BadNumber line 1\n"),
+        (
+            b"x = 170141183460469231731687303715884105728",
+            b"error L5 BadNumber line 1\n",
+        ),
+        (b"x = a < b < c\ny = 1", b"error S1 Syntax line 1\n"),
+        (deep.as_slice(), b"error S1 Syntax line 1\n"),
+        (
+            // the end of the source, where a body is wanted
+            b"from myhdl import *\n\n@block\ndef gate(y, a, b):\n    @always_comb\n    def logic():\n",
+            b"error S1 Syntax line 7\n",
         ),
     ] {
         let mut shelf = shelf(rt.alloc(), source, &[])?;
-        assert_eq!(rt; convert(rt.alloc(), &mut shelf)?, 1, "{name}");
-        assert_eq!(rt;
-            shelf.complained(),
-            b"error N1 NotYet line 0\n".as_slice(),
-            "{name}"
-        );
-        assert!(rt; holds(&shelf, b"v", b"old".as_slice()), "{name}");
+        assert_eq!(rt; convert(rt.alloc(), &mut shelf)?, 1, "{line:?}");
+        assert_eq!(rt; shelf.complained(), line);
+        assert!(rt; holds(&shelf, b"v", b"old".as_slice()), "{line:?}");
     }
     Ok(())
 }

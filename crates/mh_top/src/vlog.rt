@@ -3,13 +3,13 @@
 
 ghost use Rattle.std.specs.Prelude.{◌≡◌, ◌++◌, ◌≤◌, codes, drop, length, map, take, IfOk, OnOk};
 ghost use Rattle.std.specs.List.{flat_map, list_any};
-ghost use Rattle.mh_design.specs.Design.{assigns, is_driven as is_driven_in, statements};
+ghost use Rattle.mh_gate.specs.Design.{assigns, is_driven as is_driven_in, statements};
 ghost use Rattle.mh_top.specs.Emission.{KeepsValues, assignment_of, emitted, module_of, port_of, variable_names};
 ghost use Rattle.mh_top.specs.Pieces.{joined, line, name_in};
 ghost use Rattle.mh_top.specs.VerilogText.{assignment_lines, declarations, header, port_line, port_list, section, spelled, text as text_of, wire_line};
 
 use crate::writing::write_line;
-use mh_design::{Design, GExpr, GStmt, SignalDecl};
+use mh_gate::{Design, GExpr, GStmt, SignalDecl};
 use mh_text::Memory;
 use std::alloc::Global;
 

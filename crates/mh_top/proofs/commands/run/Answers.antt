@@ -1,4 +1,4 @@
-use Rattle.mh_top.proofs.ConvertLaws.{completes_as, never_words}
+use Rattle.mh_top.proofs.ConvertLaws.{completes_as, ends_as, never_words}
 use Rattle.mh_top.specs.Words.{Convert}
 use Rattle.mh_top.proofs.commands.run.Goals as goal
 
@@ -18,3 +18,7 @@ returns-in-Convert-clause-refuses g c = λ none. absurd (none (Convert c.in-Conv
 pub returns-in-Convert-clause-completes : goal.returns-in-Convert-clause-completes
 returns-in-Convert-clause-completes g c =
     completes_as _ _ c.in-Convert.out.now _ _ c.in-Convert.ensures c.convert.ensures.completes
+
+pub returns-in-Convert-clause-ends : goal.returns-in-Convert-clause-ends
+returns-in-Convert-clause-ends g c =
+    ends_as _ c.in-Convert.file.now c.in-Convert.out.now _ _ c.in-Convert.ensures c.convert.ensures.ends

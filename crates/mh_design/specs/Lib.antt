@@ -1,2 +1,0 @@
-pub mod Design
-pub mod Value

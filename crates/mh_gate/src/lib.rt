@@ -1,0 +1,17 @@
+//! The design of a single gate, which is what `convert` takes today: its signals, its ports, and its
+//! one generator with its body, and what an expression there means in MyHDL.
+//! Its main promise: `GExpr::value` is the value of the definition, for every expression.
+#![tactic(auto)]
+
+mod design;
+mod expression;
+mod gate;
+mod names;
+mod parts;
+mod reading;
+#[cfg(test)]
+mod tests;
+
+pub use design::{Design, GStmt, GenKind, Generator, Kind, SignalDecl};
+pub use expression::GExpr;
+pub use gate::read_design;

@@ -1,0 +1,13 @@
+use Rattle.std.proofs.Common.{◌≡◌, ℕ, ◌+◌, ◌*◌, ◌≤◌, length, []}
+use Rattle.mh_reader.specs.Reader.{many}
+use Rattle.mh_pyparse.specs.ReadingStatements as spec
+use Rattle.mh_pyparse.proofs.small.line_rest.Given as goal
+
+abbrev pub invariant-more : goal.invariant-more
+invariant-more l = record {
+  depth : l.deepest ≤ l.fuel + 1;
+  rest : many (spec.line_turn l.fuel) ([], 0) l.fn.tokens ≡ many (spec.line_turn l.fuel) (l.found, l.deepest) l.tokens;
+}
+
+abbrev pub decreases-more : goal.decreases-more
+decreases-more l = length l.tokens

@@ -1,0 +1,17 @@
+pub mod Unique
+pub mod NumberLaws
+pub mod StringLaws
+pub mod WordLaws
+pub mod IndentLaws
+pub mod LineLaws
+pub mod StepLaws
+pub mod GoLaws
+pub mod EndLaws
+pub mod QuoteLaws
+pub mod PieceLaws
+pub mod Reading
+pub mod Suffixes
+pub mod NextLaws
+pub mod Always
+pub mod Outcome
+pub mod LongestLaws

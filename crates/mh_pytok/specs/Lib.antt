@@ -1,0 +1,10 @@
+pub mod Lexeme
+pub mod Numbers
+pub mod Strings
+pub mod Words
+pub mod Readable
+pub mod Pieces
+pub mod Layout
+pub mod Tokens
+pub mod Limited
+pub mod State

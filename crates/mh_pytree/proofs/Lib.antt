@@ -1,0 +1,4 @@
+pub mod Depths
+pub mod NameLaws
+pub mod LineLaws
+mod Examples

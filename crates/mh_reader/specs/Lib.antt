@@ -1,0 +1,4 @@
+pub mod Reader
+pub mod Lexeme
+pub mod Locality
+pub mod Refusals
