@@ -1,0 +1,11 @@
+pub mod Assigned
+pub mod Constants
+pub mod Depth
+pub mod Enums
+pub mod Kinds
+pub mod LocalPaths
+pub mod Numbering
+pub mod Statements
+pub mod Tree
+pub mod Uses
+pub mod WellFormed
