@@ -5,3 +5,7 @@ pub mod ListLaws
 pub mod LocalPathLaws
 pub mod Marks
 pub mod Shapes
+pub mod ValueRows
+pub mod BodyRows
+pub mod UseLaws
+pub mod SetLaws

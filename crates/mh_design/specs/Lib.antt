@@ -9,3 +9,8 @@ pub mod Statements
 pub mod Tree
 pub mod Uses
 pub mod WellFormed
+pub mod Values
+pub mod Assignments
+pub mod Bodies
+pub mod Deltas
+pub mod Inout

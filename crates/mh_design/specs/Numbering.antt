@@ -1,9 +1,9 @@
 -- The expressions and statements of a generator, numbered: each has its place in these lists, and stands before its parts, in
 -- order of text. This is this project's own.
-use Rattle.std.specs.Prelude.{ℕ, List, [], ◌∷◌, ◌++◌, map}
+use Rattle.std.specs.Prelude.{List, [], ◌∷◌, ◌++◌, map}
 use Rattle.std.specs.List.{flat_map}
 use Rattle.mh_design.specs.declared.design.Generator.{Generator}
-use Rattle.mh_design.specs.Tree.{Expression, Expressions, Integer, Truth, Item, Fixed, Signal, Local, Now, Operation, NoMore, More, LeftBase, LeftSignal, LeftElement, LeftLocal, LeftSide, Whole, LeftBit, LeftSlice, Bind, Printed, Words, Number, Statement, Set, If, While, For, Break, Continue, Yield, Print, Assert, Stop, Block, End, Then, Arm, ArmOf, Arms, NoArm, MoreArms, block, statement_of}
+use Rattle.mh_design.specs.Tree.{Expression, Expressions, Operation, NoMore, More, LeftBase, LeftSignal, LeftElement, LeftLocal, LeftSide, Whole, LeftBit, LeftSlice, Bind, Printed, Words, Number, Statement, Set, If, While, For, Break, Continue, Yield, Print, Assert, Stop, Block, End, Then, Arm, ArmOf, Arms, NoArm, MoreArms, block, statement_of}
 
 -- The plain form of a generator's body.
 abbrev pub body_of : Generator → Block

@@ -1,7 +1,7 @@
 -- What a generator reads, drives and waits for (MyHDL 0.11 manual, "Reference": decorators and signals). An access of a memory is
 -- one of all its elements, also at a constant index. Conditions, `print`, `assert` and the indices on the left are readings; an
 -- edge and the target of a part assignment aren't.
-use Rattle.std.specs.Prelude.{ℕ, Bool, true, false, List, [], ◌∷◌, ◌++◌, map, slice_get, Option, None, Some, if◌then◌else◌}
+use Rattle.std.specs.Prelude.{ℕ, List, [], ◌∷◌, map, slice_get, Option, None, Some, if◌then◌else◌}
 use Rattle.std.specs.Option.{option_map_or}
 use Rattle.std.specs.List.{flat_map}
 use Rattle.mh_design.specs.declared.design.Design.{Design}
@@ -12,7 +12,7 @@ use Rattle.mh_design.specs.declared.design.ResetDecl.{ResetDecl}
 use Rattle.mh_design.specs.declared.design.Wait.{Wait}
 use Rattle.mh_design.specs.declared.design.Wait.TheVariants as wait
 use Rattle.mh_design.specs.Numbering.{generator_expressions, generator_statements}
-use Rattle.mh_design.specs.Tree.{Expression, Expressions, Operator, Integer, Truth, Item, Fixed, Signal, Local, Now, Operation, NoMore, More, ElementOf, TableElementOf, BitOf, SliceOf, Unary, Binary, And, Or, Concat, Signed, ToInt, ToBool, LeftBase, LeftSignal, LeftElement, LeftLocal, LeftSide, Whole, LeftBit, LeftSlice, Bind, Printed, Words, Number, Statement, Set, If, While, For, Break, Continue, Yield, Print, Assert, Stop, Block, End, Then, Arm, ArmOf, Arms, NoArm, MoreArms}
+use Rattle.mh_design.specs.Tree.{Expression, Signal, Operation, ElementOf, LeftBase, LeftSignal, LeftElement, LeftLocal, LeftSide, Whole, LeftBit, LeftSlice, Bind, Statement, Set, Yield}
 
 -- The elements of a memory.
 abbrev pub cells_of : Design → ℕ → List ℕ

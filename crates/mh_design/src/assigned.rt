@@ -216,14 +216,14 @@ fn some_printed_reads(local: usize, parts: &[PrintPart]) -> bool
 }
 
 /// The numbers of a `range` or `downrange` with this step go up.
-fn rises(down: bool, step: i128) -> bool
+pub fn rises(down: bool, step: i128) -> bool
     ensures { result ≡ spec.rises down step }
 {
     if down { step < 0 } else { 0 < step }
 }
 
 /// Whether a loop has a turn, where its ends are constants.
-fn ends_give_turn(down: bool, step: i128, from: Option<i128>, to: Option<i128>) -> Option<bool>
+pub fn ends_give_turn(down: bool, step: i128, from: Option<i128>, to: Option<i128>) -> Option<bool>
     ensures { result ≡ spec.ends_give_turn down step from to }
 {
     match (from, to) {

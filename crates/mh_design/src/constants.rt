@@ -98,7 +98,7 @@ fn table_length(d: &Design, table: u32) -> usize
 }
 
 /// An index is below `n`, if it is a constant.
-fn index_keeps(i: &GExpr, n: usize) -> bool
+pub fn index_keeps(i: &GExpr, n: usize) -> bool
     ensures { result ≡ spec.index_keeps (expression_of i.now) n }
 {
     match constant_of(i) {
@@ -118,7 +118,7 @@ fn bit_keeps(i: &GExpr, width: Option<u8>) -> bool
 }
 
 /// The ends of a slice, if both are constants.
-fn ends_keep(i: Option<i128>, j: Option<i128>, w: u8) -> bool
+pub fn ends_keep(i: Option<i128>, j: Option<i128>, w: u8) -> bool
     ensures { result ≡ spec.ends_keep i j w }
 {
     match (i, j) {

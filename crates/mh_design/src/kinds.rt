@@ -51,7 +51,7 @@ pub fn local_kind(locals: &[Local], local: u32) -> Option<Kind>
 }
 
 /// How many items an enum has.
-fn item_count(d: &Design, of: u32) -> usize
+pub fn item_count(d: &Design, of: u32) -> usize
     ensures { result ≡ spec.item_count d.now of }
 {
     match d.enums.get(of as usize) {
@@ -95,7 +95,7 @@ pub fn is_number(a: ValueKind) -> bool
 }
 
 /// A number with a width.
-fn is_bits(a: ValueKind) -> bool
+pub fn is_bits(a: ValueKind) -> bool
     ensures { result ≡ spec.is_bits a }
 {
     match a {
@@ -107,7 +107,7 @@ fn is_bits(a: ValueKind) -> bool
 }
 
 /// What may be a part of `concat`.
-fn is_part(a: ValueKind) -> bool
+pub fn is_part(a: ValueKind) -> bool
     ensures { result ≡ spec.is_part a }
 {
     match a {
@@ -119,14 +119,14 @@ fn is_part(a: ValueKind) -> bool
 }
 
 /// One kind where a test holds.
-fn given(test: bool, kind: ValueKind) -> Option<ValueKind>
+pub fn given(test: bool, kind: ValueKind) -> Option<ValueKind>
     ensures { result ≡ spec.given test kind }
 {
     if test { Some(kind) } else { None }
 }
 
 /// The kind of an operator on one operand.
-fn unary_kind(op: UnaryOp, a: ValueKind) -> Option<ValueKind>
+pub fn unary_kind(op: UnaryOp, a: ValueKind) -> Option<ValueKind>
     ensures { result ≡ spec.unary_kind op a }
 {
     match op {
@@ -143,14 +143,14 @@ fn unary_kind(op: UnaryOp, a: ValueKind) -> Option<ValueKind>
 }
 
 /// One kind where both operands are numbers.
-fn numeric(a: ValueKind, b: ValueKind, kind: ValueKind) -> Option<ValueKind>
+pub fn numeric(a: ValueKind, b: ValueKind, kind: ValueKind) -> Option<ValueKind>
     ensures { result ≡ spec.numeric a b kind }
 {
     given(is_number(a) && is_number(b), kind)
 }
 
 /// The kind of `&`, `|` and `^`.
-fn bitwise(a: ValueKind, b: ValueKind) -> Option<ValueKind>
+pub fn bitwise(a: ValueKind, b: ValueKind) -> Option<ValueKind>
     ensures { result ≡ spec.bitwise a b }
 {
     match (a, b) {
@@ -160,7 +160,7 @@ fn bitwise(a: ValueKind, b: ValueKind) -> Option<ValueKind>
 }
 
 /// The kind of `==` and `!=`.
-fn equality(a: ValueKind, b: ValueKind) -> Option<ValueKind>
+pub fn equality(a: ValueKind, b: ValueKind) -> Option<ValueKind>
     ensures { result ≡ spec.equality a b }
 {
     match (a, b) {
@@ -170,7 +170,7 @@ fn equality(a: ValueKind, b: ValueKind) -> Option<ValueKind>
 }
 
 /// The kind of an operator on two operands.
-fn binary_kind(op: BinaryOp, a: ValueKind, b: ValueKind) -> Option<ValueKind>
+pub fn binary_kind(op: BinaryOp, a: ValueKind, b: ValueKind) -> Option<ValueKind>
     ensures { result ≡ spec.binary_kind op a b }
 {
     match op {

@@ -4,6 +4,7 @@
 #![tactic(auto)]
 
 mod assigned;
+mod combs;
 mod constants;
 mod depth;
 mod design;
@@ -19,17 +20,26 @@ mod statement;
 mod statements;
 #[cfg(test)]
 mod tests;
+mod uses;
+#[cfg(test)]
+mod uses_tests;
 mod validity;
 
-pub use assigned::{Flow, is_assigned_first};
-pub use constants::constant_of;
+pub use assigned::{Flow, ends_give_turn, is_assigned_first, rises};
+pub use combs::inout;
+pub use constants::{constant_of, ends_keep, index_keeps};
 pub use design::{
     Design, Encoding, EnumDecl, GenKind, Generator, Kind, Local, MemDecl, ResetDecl, SignalDecl,
     TableDecl, Wait,
 };
 pub use enums::{enum_fits, is_item_code, item_code};
 pub use expression::{BinaryOp, GExpr, UnaryOp};
-pub use kinds::{ValueKind, kind_of, local_kind, mem_kind, read_as, signal_kind};
+pub use kinds::{
+    ValueKind, binary_kind, bitwise, equality, given, is_bits, is_number, is_part, item_count,
+    kind_of, local_kind, mem_kind, numeric, read_as, signal_kind, unary_kind,
+};
 pub use laws::assigned_laws;
 pub use statement::{Binding, Branch, GStmt, Place, PrintPart, Target};
-pub use validity::well_formed;
+pub use statements::{binding_takes, bound_takes, is_bits_kind, is_int_kind, takes};
+pub use uses::{drives, reads, waits};
+pub use validity::{cells_kind, is_edge, is_reset, met, met_all, met_next, well_formed};

@@ -38,7 +38,7 @@ fn is_integer(d: &Design, locals: &[Local], e: &GExpr) -> bool
 }
 
 /// A place of the declared kind takes values of this kind.
-fn takes(kind: Kind, value: ValueKind) -> bool
+pub fn takes(kind: Kind, value: ValueKind) -> bool
     ensures { result ≡ spec.takes kind value }
 {
     match kind {
@@ -55,7 +55,7 @@ fn takes(kind: Kind, value: ValueKind) -> bool
 }
 
 /// The kind of bounded numbers.
-fn is_bits_kind(kind: Kind) -> bool
+pub fn is_bits_kind(kind: Kind) -> bool
     ensures { result ≡ spec.is_bits_kind kind }
 {
     match kind {
@@ -79,7 +79,7 @@ pub fn is_bool_kind(kind: Kind) -> bool
 }
 
 /// The kind of integers without bounds.
-fn is_int_kind(kind: Kind) -> bool
+pub fn is_int_kind(kind: Kind) -> bool
     ensures { result ≡ spec.is_int_kind kind }
 {
     match kind {
@@ -144,7 +144,7 @@ fn whole_takes(d: &Design, locals: &[Local], place: &Place, value: ValueKind) ->
 }
 
 /// `v = e` keeps the kind of the local.
-fn bound_takes(kind: Kind, value: ValueKind) -> bool
+pub fn bound_takes(kind: Kind, value: ValueKind) -> bool
     ensures { result ≡ spec.bound_takes kind value }
 {
     match kind {
@@ -161,7 +161,7 @@ fn bound_takes(kind: Kind, value: ValueKind) -> bool
 }
 
 /// A local of the declared kind is given a value of this kind.
-fn binding_takes(binding: Binding, kind: Kind, value: ValueKind) -> bool
+pub fn binding_takes(binding: Binding, kind: Kind, value: ValueKind) -> bool
     ensures { result ≡ spec.binding_takes binding kind value }
 {
     match binding {

@@ -85,7 +85,7 @@ fn signal_fits(d: &Design, s: &SignalDecl) -> bool
 }
 
 /// The kind as which the elements of a list are read, given that of those before.
-fn met(a: Kind, b: Kind) -> Option<Kind>
+pub fn met(a: Kind, b: Kind) -> Option<Kind>
     ensures { result ≡ spec.met a b }
 {
     match a {
@@ -117,7 +117,7 @@ fn met(a: Kind, b: Kind) -> Option<Kind>
 }
 
 /// The kind as which elements are read, with one more.
-fn met_next(d: &Design, kind: Option<Kind>, cell: u32) -> Option<Kind>
+pub fn met_next(d: &Design, kind: Option<Kind>, cell: u32) -> Option<Kind>
     ensures { result ≡ spec.met_next d.now kind cell }
 {
     match kind {
@@ -130,7 +130,7 @@ fn met_next(d: &Design, kind: Option<Kind>, cell: u32) -> Option<Kind>
 }
 
 /// The kind as which elements are read, with more of them.
-fn met_all(d: &Design, first: Option<Kind>, cells: &[u32]) -> Option<Kind>
+pub fn met_all(d: &Design, first: Option<Kind>, cells: &[u32]) -> Option<Kind>
     ensures { result ≡ spec.met_all d.now first cells.now }
 {
     let mut kind = first;
@@ -141,7 +141,7 @@ fn met_all(d: &Design, first: Option<Kind>, cells: &[u32]) -> Option<Kind>
 }
 
 /// The kind as which the elements of a list are read, or `None` where they have none in common.
-fn cells_kind(d: &Design, cells: &[u32]) -> Option<Kind>
+pub fn cells_kind(d: &Design, cells: &[u32]) -> Option<Kind>
     ensures { result ≡ spec.cells_kind d.now cells.now }
 {
     match cells {
@@ -204,7 +204,7 @@ fn local_fits(d: &Design, v: &Local) -> bool
 }
 
 /// An edge is waited for.
-fn is_edge(wait: Wait) -> bool
+pub fn is_edge(wait: Wait) -> bool
     ensures { result ≡ spec.is_edge wait }
 {
     match wait {
@@ -215,7 +215,7 @@ fn is_edge(wait: Wait) -> bool
 }
 
 /// A reset is declared as one.
-fn is_reset(d: &Design, reset: Option<u32>) -> bool
+pub fn is_reset(d: &Design, reset: Option<u32>) -> bool
     ensures { result ≡ spec.is_reset d.now reset }
 {
     match reset {

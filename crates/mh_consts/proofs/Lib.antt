@@ -1,0 +1,9 @@
+pub mod Bindings
+pub mod Shapes
+pub mod Values
+pub mod BoundsMade
+pub mod Keys
+pub mod Forms
+pub mod Rows
+pub mod PlainForms
+pub mod Operation

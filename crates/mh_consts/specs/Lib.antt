@@ -1,0 +1,10 @@
+pub mod formers
+pub mod Names
+pub mod Expression
+pub mod Outcome
+pub mod Numbers
+pub mod Operators
+pub mod Places
+pub mod Builtins
+pub mod Constant
+pub mod Steps
