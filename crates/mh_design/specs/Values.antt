@@ -1,7 +1,7 @@
 -- The values of expressions in a run (MyHDL 0.11 manual, "Reference", "Bit indexing" and "Bit slicing"; which operands have a fault is
 -- this project's own rule). The value of an expression is a mathematical integer, a truth value being 0 or 1, or the first fault in
 -- order of evaluation: parts from left to right, and then the operator. A right side of `and` or `or` that isn't needed has no fault.
-use Rattle.std.specs.Prelude.{ℕ, ℤ, pos, ◌+◌, ◌*◌, ◌^◌, ◌+ℤ◌, ◌-ℤ◌, ◌*ℤ◌, Bool, true, false, not, int_lt, int_le, List, [], ◌∷◌, length, slice_get, slice_index_or, sum_by, Option, is_some, Result, Ok, Err, unsigned_abs, if◌then◌else◌}
+use Rattle.std.specs.Prelude.{ℕ, ℤ, pos, ◌+◌, ◌*◌, ◌^◌, ◌+ℤ◌, ◌-ℤ◌, ◌*ℤ◌, Bool, true, false, not, int_lt, int_le, List, [], ◌∷◌, length, slice_get, slice_index_or, sum_by, min, Option, is_some, Result, Ok, Err, unsigned_abs, if◌then◌else◌}
 use Rattle.std.specs.Option.{option_map_or}
 use Rattle.std.specs.Ordering.{int_eq}
 use Rattle.mh_codes.specs.Codes.{code, number}
@@ -223,8 +223,13 @@ abbrev pub joined_code : ℕ → List Operand → ℕ
 joined_code before [] = before
 joined_code before (a ∷ rest) = joined_code (before * 2 ^ bits_of a.form + code (bits_of a.form) a.value) rest
 
+-- Their width, where no more than 128 bits are told apart: a number of 128 signed bits that isn't negative has the same bits at every
+-- width above 127.
+abbrev pub joined_width : List Operand → ℕ
+joined_width parts = min 128 (sum_by (λ a. bits_of a.form) parts)
+
 abbrev pub joined : List Operand → Result Operand Fault
-joined parts = within (as_bits (sum_by (λ a. bits_of a.form) parts)) (pos (joined_code 0 parts))
+joined parts = within (as_bits (joined_width parts)) (pos (joined_code 0 parts))
 
 -- `a.signed()`: a range that has negative numbers is read as such already.
 abbrev pub signed_value : Operand → Operand

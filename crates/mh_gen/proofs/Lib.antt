@@ -1,0 +1,5 @@
+pub mod Assigning
+pub mod Ends
+pub mod Joins
+pub mod Operands
+pub mod Writing

@@ -1,0 +1,5 @@
+pub mod Parts
+pub mod ReadingLaws
+pub mod Readings
+pub mod Values
+pub mod Woken
