@@ -65,6 +65,22 @@ impl Lists {
     {
         self.lists.get(n as usize)
     }
+
+    /// How many lists there are.
+    pub fn len(&self) -> usize
+        ensures { result ≡ length self.now }
+    {
+        self.lists.len()
+    }
+
+    /// Puts a value at a place of a list, which is changed under every name that shares it.
+    pub fn set(&mut self, n: u32, at: usize, v: Const)
+        requires list { n < length self.old }
+        requires within { (vs : List Const) → slice_get self.old n ≡ Some vs → at < length vs }
+        ensures { (vs : List Const) → slice_get self.old n ≡ Some vs → self.new ≡ slice_set self.old n (slice_set vs at v) }
+    {
+        self.lists[n as usize].set(at, v);
+    }
 }
 
 /// What an expression may speak of: names with what they are bound to, and lists by their numbers.

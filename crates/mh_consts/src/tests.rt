@@ -476,3 +476,34 @@ fn a_copy_has_the_value_bound_latest(rt: HostRuntime) -> Result<(), Fail> {
     assert_eq!(rt; bound(rt.alloc(), "other")?, Want::Item(5, 0));
     Ok(())
 }
+
+/// A list of two numbers.
+fn pair(alloc: Global) -> Result<Items<Const>, Memory> {
+    let mut all = Items::new(alloc);
+    all.push(Const::Int(4))?;
+    all.push(Const::Int(5))?;
+    Ok(all)
+}
+
+/// What the second item of the first list is.
+fn second(lists: &Lists) -> Result<Want, Fail> {
+    let items = lists.get(0).ok_or("no list")?;
+    let v = items.as_slice().get(1).ok_or("no item")?;
+    Ok(shown(v))
+}
+
+#[test]
+fn an_item_of_a_list_is_replaced(rt: HostRuntime) -> Result<(), Fail> {
+    let mut lists = Lists::new(rt.alloc());
+    lists.add(pair(rt.alloc())?)?;
+    assert_eq!(rt; lists.len(), 1);
+    let replaced = match lists.get(0) {
+        Some(items) => items.len() > 1,
+        None => false,
+    };
+    if replaced {
+        lists.set(0, 1, Const::Int(9));
+    }
+    assert_eq!(rt; second(&lists)?, Want::Int(9));
+    Ok(())
+}

@@ -1,12 +1,12 @@
 -- Indices and slices.
-use Rattle.std.proofs.Common.{ℕ, ℤ, pos, negsuc, ◌+◌, ◌-◌, ◌*◌, ◌/◌, ◌%◌, ◌^◌, ◌<◌, ◌≤◌, ◌+ℤ◌, ◌-ℤ◌, ◌≤ℤ◌, ◌≡◌, Bool, true, false, Result, Ok, Err, unsigned_abs, if◌then◌else◌, refl, sym, ap, subst, ◌∙◌, arith}
+use Rattle.std.proofs.Common.{ℕ, ℤ, pos, negsuc, ◌+◌, ◌-◌, ◌*◌, ◌/◌, ◌^◌, ◌<◌, ◌+ℤ◌, ◌-ℤ◌, ◌≤ℤ◌, ◌≡◌, Bool, true, false, Result, Ok, Err, unsigned_abs, if◌then◌else◌, refl, sym, ap, subst, ◌∙◌, arith}
 use Rattle.std.proofs.lemmas.Nat.{pow_pos, pow-add}
 use Rattle.std.proofs.Math.Nat.{div-lt_iff_lt-mul, mod-eq_of_lt}
 use borrow.Author.Differences.{sum_is_lem}
 use Rattle.std.proofs.lemmas.Int.{ints}
 use Rattle.mh_codes.specs.Integers.{slice_of, floor_div}
 use Rattle.mh_codes.specs.Ranges.{is_inside}
-use Rattle.mh_design.specs.Values.{Fault, inside, indexed, with_ends}
+use Rattle.mh_design.specs.Values.{Fault, with_ends}
 
 -- what two tests decide
 module _ {A B : Type 0} (e g : Fault) where

@@ -1,20 +1,19 @@
 -- The number that the parts of a `concat` make, cut off where it leaves 128 signed bits.
-use Rattle.std.proofs.Common.{ℕ, ℤ, pos, negsuc, ◌+◌, ◌-◌, ◌*◌, ◌^◌, ◌<◌, ◌≤◌, ◌+ℤ◌, ◌*ℤ◌, ◌≤ℤ◌, ◌≡◌, Bool, true, false, nat_lt, min, List, [], ◌∷◌, Option, None, Some, Result, Ok, Err, sum_by, unsigned_abs, if◌then◌else◌, add-zero, zero-add, add_assoc, refl, sym, ap, subst, ◌∙◌, arith}
+use Rattle.std.proofs.Common.{ℕ, ℤ, pos, negsuc, ◌+◌, ◌*◌, ◌^◌, ◌<◌, ◌≤◌, ◌+ℤ◌, ◌*ℤ◌, ◌≤ℤ◌, ◌≡◌, true, nat_lt, min, List, [], ◌∷◌, Option, None, Some, Result, Ok, Err, sum_by, unsigned_abs, if◌then◌else◌, add-zero, zero-add, add_assoc, refl, sym, ap, ◌∙◌, arith}
 use Rattle.std.proofs.lemmas.Int.{ints}
 use Rattle.std.proofs.lemmas.Nat.{pow_pos}
 use Rattle.std.proofs.lemmas.List.Sums.{sum_by-cons}
 use Rattle.std.proofs.lemmas.Bool.Decides.{nat_tests}
 use Rattle.std.proofs.Math.Nat.{mul-le-mul_left}
 use borrow.Author.Differences.{sum_is_lem, product_is}
-use Rattle.std.specs.Option.{option_map_or, option_and_then}
+use Rattle.std.specs.Option.{option_and_then}
 use Rattle.mh_codes.specs.Codes.{code}
-use Rattle.mh_codes.specs.Widths.{magnitude_of}
 use Rattle.mh_codes.specs.Integers.{slice_of}
 use Rattle.mh_num.specs.Results.{in_i128, left_shift_of}
 use Rattle.mh_num.proofs.ResultLaws.{in_i128-none, in_i128-outside, in_i128-some}
 use Rattle.mh_num.proofs.Words.{slice-whole}
 use Rattle.mh_design.specs.Values as spec
-use Rattle.mh_gen.specs.Joined.{one_more, wider, joined_from}
+use Rattle.mh_gen.specs.Joined.{one_more, joined_from}
 
 -- a number is never less than what stands before its last part
 grows : (n w c : ℕ) → n ≤ n * 2 ^ w + c

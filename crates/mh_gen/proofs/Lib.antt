@@ -3,3 +3,8 @@ pub mod Ends
 pub mod Joins
 pub mod Operands
 pub mod Writing
+pub mod Making
+pub mod Resetting
+pub mod FirstLocals
+pub mod Fitting
+pub mod Numbered

@@ -6,7 +6,7 @@ use Rattle.mh_num.specs.declared.bounds.Bounds.{Bounds}
 use Rattle.mh_design.specs.declared.expression.GExpr.{GExpr}
 use Rattle.mh_design.specs.declared.expression.UnaryOp.{UnaryOp}
 use Rattle.mh_design.specs.declared.expression.BinaryOp.{BinaryOp}
-use Rattle.mh_design.specs.Tree.{Expression, Expressions, Operator, Integer, Truth, Item, Fixed, Signal, Local, Now, Operation, NoMore, More, ElementOf, TableElementOf, BitOf, SliceOf, Unary, Binary, And, Or, Concat, Signed, ToInt, ToBool, expression_of, row, one, two, three}
+use Rattle.mh_design.specs.Tree.{Expression, Expressions, Integer, Truth, Item, Fixed, Signal, Local, Now, Operation, NoMore, More, ElementOf, TableElementOf, BitOf, SliceOf, Unary, Binary, And, Or, Concat, Signed, ToInt, ToBool, expression_of, row, one, two, three}
 use Rattle.mh_design.specs.Values as spec
 use Rattle.mh_design.specs.Assignments.{FitsExpression, is_named, are_named, item_is_there, operator_is_named}
 use Rattle.mh_design.proofs.Shapes as shape

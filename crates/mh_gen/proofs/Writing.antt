@@ -1,9 +1,8 @@
 -- Expressions and left sides of bodies.
-use Rattle.std.proofs.Common.{ℕ, ℤ, pos, ◌≡◌, ◌-ℤ◌, Bool, true, false, ◌&&◌, List, [], ◌∷◌, Result, Ok, Err, IsTrue, refl, ap, ◌∙◌}
+use Rattle.std.proofs.Common.{ℕ, ℤ, pos, ◌≡◌, ◌-ℤ◌, Bool, true, false, ◌&&◌, [], ◌∷◌, Result, Ok, Err, IsTrue, refl}
 use Rattle.std.specs.Option.{option_map_or}
 use Rattle.std.specs.Ordering.{int_eq}
 use Rattle.mh_num.specs.Results.{in_i128}
-use Rattle.mh_design.specs.declared.design.Design.{Design}
 use Rattle.mh_design.specs.declared.expression.UnaryOp.TheVariants as unary
 use Rattle.mh_design.specs.declared.expression.BinaryOp.TheVariants as binary
 use Rattle.mh_design.specs.Constants.{number_of_truth}

@@ -1,6 +1,6 @@
 -- The number that the parts of a `concat` make, part by part. This serves proofs: it is that of `mh_design` with the number cut off where
 -- it leaves 128 signed bits.
-use Rattle.std.specs.Prelude.{ℕ, ℤ, pos, ◌+◌, ◌*◌, ◌^◌, min, List, [], ◌∷◌, Option, None, Some, Result, Ok, Err, option_and_then, unsigned_abs}
+use Rattle.std.specs.Prelude.{ℕ, ℤ, pos, ◌+◌, ◌*◌, ◌^◌, min, List, [], ◌∷◌, Option, Result, Ok, Err, option_and_then, unsigned_abs}
 use Rattle.std.specs.Option.{option_map_or}
 use Rattle.mh_codes.specs.Codes.{code}
 use Rattle.mh_num.specs.Results.{in_i128}

@@ -1,16 +1,15 @@
 -- What fits a store fits it after an assignment.
-use Rattle.std.specs.Prelude.{ℕ, ℤ, pos, ◌+◌, ◌+ℤ◌, ◌-ℤ◌, ◌≡◌, Bool, true, false, List, length, slice_set, IsTrue, Result, Ok, Err, unsigned_abs, if◌then◌else◌}
-use Rattle.std.proofs.Common.{subst, sym, ap, ◌∙◌, refl}
+use Rattle.std.specs.Prelude.{ℕ, ℤ, pos, ◌+◌, ◌+ℤ◌, ◌-ℤ◌, ◌≡◌, Bool, true, false, length, IsTrue, Result, Ok, Err, unsigned_abs, if◌then◌else◌}
+use Rattle.std.proofs.Common.{subst, sym, ◌∙◌, refl}
 use Rattle.std.proofs.lemmas.List.{length-set}
 use Rattle.mh_codes.specs.Ranges.{is_inside}
 use Rattle.mh_num.specs.declared.bounds.OutOfBounds.{OutOfBounds}
 use Rattle.mh_flat.specs.Words.{Keeps}
-use Rattle.mh_design.specs.declared.design.Design.{Design}
 use Rattle.mh_design.specs.declared.statement.Binding.{Binding}
 use Rattle.mh_design.specs.declared.statement.Binding.TheVariants as binding
-use Rattle.mh_design.specs.Tree.{Expression, LeftBase, LeftSide, Whole, LeftBit, LeftSlice, Bind}
-use Rattle.mh_design.specs.Values.{Limits, Held, Signals, Store, Fault, Between, with_value, inside, indexed, with_ends, value_of, local_at}
-use Rattle.mh_design.specs.Assignments.{taken, part_taken, pending_is, set_pending, next_set, part_set, limits_at, pending_at, Spot, SignalSpot, LocalSpot, spot_of, spot_width, set_local, with_signals, with_held, whole_assigned, part_assigned, bit_assigned, slice_assigned, low_limits, bound_to, assigned, counted, left_is_named, is_named, IsEven, FitsExpression, FitsLeft}
+use Rattle.mh_design.specs.Tree.{Expression, LeftSide, Whole, LeftBit, LeftSlice, Bind}
+use Rattle.mh_design.specs.Values.{Limits, Store, Fault, Between, with_value, inside, indexed, with_ends, value_of, local_at}
+use Rattle.mh_design.specs.Assignments.{taken, part_taken, pending_is, set_pending, limits_at, pending_at, Spot, SignalSpot, LocalSpot, spot_of, spot_width, set_local, with_signals, with_held, whole_assigned, part_assigned, bit_assigned, slice_assigned, low_limits, bound_to, assigned, counted, left_is_named, is_named, IsEven, FitsExpression, FitsLeft}
 
 abbrev FitsSet : LeftSide → Expression → Store → Type 0
 FitsSet t e s = FitsLeft t s
@@ -30,7 +29,7 @@ left_alike : (p : LeftSide) (s t : Store) → Alike s t → FitsLeft p s → Fit
 left_alike p s t a h =
     (subst (λ d. IsTrue (left_is_named d (length t.signals.values) (length t.locals) p)) (sym a.design) (subst (λ n. IsTrue (left_is_named s.design n (length t.locals) p)) (sym a.values) (subst (λ m. IsTrue (left_is_named s.design (length s.signals.values) m p)) (sym a.locals) h.0)), a.even h.1)
 
-keeps : (s t : Store) → Alike s t → Keeps FitsExpression FitsSet FitsLeft s t
+pub keeps : (s t : Store) → Alike s t → Keeps FitsExpression FitsSet FitsLeft s t
 keeps s t a =
     record { exprs = λ e h. named_alike e s t a h; sets = λ p e h. left_alike p s t a h; counts = λ p h. left_alike p s t a h }
 

@@ -5,4 +5,6 @@ pub mod Total
 pub mod Codes
 pub mod Laws
 pub mod Written
+pub mod Steps
 pub mod Numbers
+pub mod Running

@@ -1,6 +1,5 @@
 -- How what this crate keeps is seen.
-use Rattle.std.specs.Prelude.{ℕ, ℤ, pos, ◌≡◌, ◌≤◌, ◌≤ℤ◌, Result, Ok, Err, true, false}
-use Rattle.mh_num.specs.declared.bounds.OutOfBounds.{OutOfBounds}
+use Rattle.std.specs.Prelude.{ℤ, pos, ◌≡◌, ◌≤◌, ◌≤ℤ◌, Result, Ok, Err}
 use Rattle.mh_gen.specs.declared.fault.Cause.{Cause}
 use Rattle.mh_gen.specs.declared.fault.Cause.TheVariants as cause
 use Rattle.mh_gen.specs.declared.form.Form.{Form as Kept}

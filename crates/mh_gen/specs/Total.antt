@@ -1,6 +1,6 @@
 -- The values of expressions where a number that names no item counts as an item whose code is 0. These serve proofs: in what fits a store
 -- every number names something, and the values are those of `mh_design`.
-use Rattle.std.specs.Prelude.{ℕ, ℤ, pos, Bool, true, false, List, [], ◌∷◌, map, Option, Some, Result, Ok, Err, if◌then◌else◌}
+use Rattle.std.specs.Prelude.{ℕ, ℤ, pos, List, [], ◌∷◌, map, Option, Result, Ok, if◌then◌else◌}
 use Rattle.mh_design.specs.declared.design.Design.{Design}
 use Rattle.mh_design.specs.declared.expression.GExpr.{GExpr}
 use Rattle.mh_design.specs.Tree.{Expression, Expressions, Integer, Truth, Item, Fixed, Signal, Local, Now, Operation, NoMore, More, expression_of, row}

@@ -18,10 +18,10 @@ use mh_design::GExpr;
 use mh_num::{add, shl};
 
 /// The element of a memory at an index.
-fn element(s: &Store, mem: u32, i: i128) -> Result<Operand, Fault>
-    ensures { result ≡ spec.element_of s.now mem i }
+fn element(s: &Store, mem: u32, i: &Operand) -> Result<Operand, Fault>
+    ensures { result ≡ spec.element_of s.now mem i.now.value }
 {
-    let n = cell(s.design(), mem, i)?;
+    let n = cell(s.design(), mem, i.value())?;
     Ok(s.signal_operand(n))
 }
 
@@ -110,34 +110,16 @@ pub fn operand(s: &Store, e: &GExpr) -> Result<Operand, Fault>
         GExpr::Signal(n) => Ok(s.signal_operand(*n)),
         GExpr::Local(n) => Ok(s.local_operand(*n)),
         GExpr::Now => Ok(Operand::integer(s.time() as i128)),
-        GExpr::Element(m, i) => {
-            let i = operand(s, i.get())?;
-            element(s, *m, i.value())
-        }
-        GExpr::TableElement(t, i) => {
-            let i = operand(s, i.get())?;
-            table_at(s, *t, &i)
-        }
-        GExpr::Bit(a, i) => {
-            let a = operand(s, a.get())?;
-            let i = operand(s, i.get())?;
-            bit_of(&a, &i)
-        }
+        GExpr::Element(m, i) => element(s, *m, &operand(s, i.get())?),
+        GExpr::TableElement(t, i) => table_at(s, *t, &operand(s, i.get())?),
+        GExpr::Bit(a, i) => bit_of(&operand(s, a.get())?, &operand(s, i.get())?),
         GExpr::Slice(a, i, j) => {
             let a = operand(s, a.get())?;
             let i = operand(s, i.get())?;
-            let j = operand(s, j.get())?;
-            slice_of(&a, &i, &j)
+            slice_of(&a, &i, &operand(s, j.get())?)
         }
-        GExpr::Unary(op, a) => {
-            let a = operand(s, a.get())?;
-            unary(*op, &a)
-        }
-        GExpr::Binary(op, a, b) => {
-            let a = operand(s, a.get())?;
-            let b = operand(s, b.get())?;
-            binary(*op, &a, &b)
-        }
+        GExpr::Unary(op, a) => unary(*op, &operand(s, a.get())?),
+        GExpr::Binary(op, a, b) => binary(*op, &operand(s, a.get())?, &operand(s, b.get())?),
         GExpr::And(a, b) => {
             let a = operand(s, a.get())?;
             if a.is_true() {
@@ -157,18 +139,9 @@ pub fn operand(s: &Store, e: &GExpr) -> Result<Operand, Fault>
             }
         }
         GExpr::Concat(parts) => joined(s, parts.as_slice()),
-        GExpr::Signed(a) => {
-            let a = operand(s, a.get())?;
-            Ok(signed(&a))
-        }
-        GExpr::Int(a) => {
-            let a = operand(s, a.get())?;
-            Ok(Operand::integer(a.value()))
-        }
-        GExpr::Bool(a) => {
-            let a = operand(s, a.get())?;
-            Ok(Operand::truth(a.is_true()))
-        }
+        GExpr::Signed(a) => Ok(signed(&operand(s, a.get())?)),
+        GExpr::Int(a) => Ok(Operand::integer(operand(s, a.get())?.value())),
+        GExpr::Bool(a) => Ok(Operand::truth(operand(s, a.get())?.is_true())),
     }
 }
 

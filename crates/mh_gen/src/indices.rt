@@ -1,5 +1,5 @@
 // Indices and slices.
-ghost use Rattle.std.specs.Prelude.{◌≡◌, ◌≤◌, ◌<◌, ◌≤ℤ◌, ◌-◌, ◌^◌, ◌+ℤ◌, ◌-ℤ◌, pos, Ok, IfOk, unsigned_abs};
+ghost use Rattle.std.specs.Prelude.{◌≡◌, ◌≤◌, ◌<◌, ◌≤ℤ◌, ◌-◌, ◌^◌, ◌+ℤ◌, pos, Ok, IfOk, unsigned_abs};
 ghost use Rattle.mh_codes.specs.Integers.{bit_of, slice_of, floor_div};
 ghost use Rattle.mh_codes.specs.Ranges as range;
 ghost use Rattle.mh_design.specs.Values as spec;

@@ -1,18 +1,16 @@
 // Operators on values.
-ghost use Rattle.std.specs.Prelude.{◌≡◌, ◌≤◌, ◌<◌, ◌≤ℤ◌, ◌-◌, ◌+◌, ◌^◌, ◌-ℤ◌, pos, true, Ok, Err, is_some, int_lt, int_le};
-ghost use Rattle.std.specs.Option.{option_map_or};
+ghost use Rattle.std.specs.Prelude.{◌≡◌, ◌≤◌, ◌<◌, ◌≤ℤ◌, ◌-◌, ◌^◌, pos, true, Ok, Err, is_some, int_lt, int_le};
 ghost use Rattle.std.specs.Ordering.{int_eq};
 ghost use Rattle.mh_codes.specs.Codes.{code, number};
-ghost use Rattle.mh_codes.specs.Integers.{bit_of, slice_of, inverse_of};
+ghost use Rattle.mh_codes.specs.Integers.{inverse_of};
 ghost use Rattle.mh_num.specs.Results.{amount_of, in_i128};
 ghost use Rattle.mh_design.specs.Values as spec;
-ghost use Rattle.mh_gen.specs.Seen.{form_seen};
 
 use crate::fault::Fault;
 use crate::form::Form;
 use crate::operand::{Operand, integer_within};
 use mh_design::{BinaryOp, UnaryOp};
-use mh_num::{add, and, mul, or, quot, rem, shl, shr, signed_of, slice, sub, xor};
+use mh_num::{add, and, mul, or, quot, rem, shl, shr, signed_of, sub, xor};
 
 /// The greatest number of `width` bits, `2 ** width - 1`.
 pub fn greatest(width: u8) -> i128

@@ -1,10 +1,12 @@
 // What evaluations see.
-ghost use Rattle.std.specs.Prelude.{◌≡◌, ◌≤◌, ◌<◌, ◌+◌, ◌-◌, ℕ, IsTrue, nat_lt, length, pos, slice_index_or, slice_set, Ok, IfOk, unsigned_abs};
+ghost use Rattle.std.specs.Prelude.{◌≡◌, ◌≤◌, ◌<◌, ◌+◌, ◌-◌, ℕ, IsTrue, nat_lt, length, pos, slice_index_or, Ok, Err, IfOk, IfErr, unsigned_abs};
 ghost use Rattle.std.specs.List.{list_all};
 ghost use Rattle.mh_design.specs.Values as spec;
 ghost use Rattle.mh_design.specs.Values.{Store as Seen};
 ghost use Rattle.mh_design.specs.Uses.{cells_of};
 ghost use Rattle.mh_design.specs.Assignments as assignment;
+ghost use Rattle.mh_design.specs.Deltas as delta;
+ghost use Rattle.mh_signals.specs.Holding.{held};
 ghost use Rattle.mh_gen.specs.Answers.{Assigns, IsThere, IsNarrow, local_result};
 ghost use Rattle.mh_gen.specs.Seen.{form_seen, spot_seen};
 ghost use Rattle.mh_gen.specs.Total as total;
@@ -15,10 +17,12 @@ use crate::held::Held;
 use crate::indices::{Ends, index_below, slice_ends};
 use crate::operand::Operand;
 use crate::spot::Spot;
-use mh_design::{Binding, Design, enum_fits, item_code};
+use mh_design::{Binding, Design, Wait, enum_fits, item_code};
+use mh_num::OutOfBounds;
 use mh_signals::Signals;
 use sqlite_items::Items;
 use std::marker::Model;
+use std::mem::swap;
 
 /// What an evaluation sees: the signals, the locals of its generator by their numbers, and the time
 /// of the run.
@@ -343,5 +347,67 @@ impl<'a> Store<'a> {
     {
         let held = self.local(n).given(v);
         self.locals.set(n as usize, held);
+    }
+}
+
+// What a run does between evaluations.
+impl<'a> Store<'a> {
+    /// The signals.
+    pub fn signals(&self) -> &Signals
+        ensures { result.now ≡ self.now.signals }
+    {
+        &self.signals
+    }
+
+    /// Takes the locals of another generator, and gives back those that it had.
+    pub fn swap_locals(&mut self, locals: &mut Items<Held>)
+        ensures taken { self.new ≡ record self.old { locals = locals.old } }
+        ensures given { locals.new ≡ self.old.locals }
+    {
+        swap(&mut self.locals, locals);
+    }
+
+    /// The time goes on.
+    pub fn set_time(&mut self, time: u64)
+        ensures { self.new ≡ record self.old { time = time } }
+    {
+        self.time = time;
+    }
+
+    /// Gives a signal the value that it has from before the start.
+    pub fn hold(&mut self, n: u32, v: i128) -> Result<(), OutOfBounds>
+        requires { n < length self.old.signals.values }
+        ensures ok { IfOk result (λ _. held self.old.signals n v ≡ Ok self.new.signals) }
+        ensures err { IfErr result (λ e. (held self.old.signals n v ≡ Err e) × (self.new.signals ≡ self.old.signals)) }
+        ensures rest { self.new ≡ record self.old { signals = self.new.signals } }
+    {
+        self.signals.hold(n, v)
+    }
+
+    /// Makes a value of a signal pending.
+    pub fn set_next(&mut self, n: u32, v: i128) -> Result<(), OutOfBounds>
+        requires { n < length self.old.signals.values }
+        ensures ok { IfOk result (λ _. assignment.next_set self.old.signals n v ≡ Ok self.new.signals) }
+        ensures err { IfErr result (λ e. (assignment.next_set self.old.signals n v ≡ Err e) × (self.new.signals ≡ self.old.signals)) }
+        ensures rest { self.new ≡ record self.old { signals = self.new.signals } }
+    {
+        self.signals.set_next(n, v)
+    }
+
+    /// A generator waits from now on for these, and isn't woken.
+    pub fn wait(&mut self, g: u32, w: &[Wait])
+        requires there { g < length self.old.signals.waiters }
+        requires room { length w.now ≤ (delta.waiter_at self.old.signals g).room }
+        ensures { self.new ≡ record self.old { signals = delta.waiting self.old.signals g w.now } }
+    {
+        self.signals.wait(g, w);
+    }
+
+    /// Ends a delta. Answers whether a value changed.
+    pub fn update(&mut self) -> bool
+        ensures changed { result ≡ delta.is_pending self.old.signals }
+        ensures taken { self.new ≡ record self.old { signals = delta.updated self.old.signals } }
+    {
+        self.signals.update()
     }
 }

@@ -1,14 +1,18 @@
 // Values and faults as Python's arithmetic gives them, at operands that are signed, unsigned, truth
 // values and items: signal 0 is -3 of -8 to 7, signal 1 is 171 of 0 to 255, signal 2 is true, and
 // signal 3 is 6 of 0 to 7, which wraps; local 0 is 9 of 0 to 15; memory 0 is signals 1 and 3; table 0
-// holds 5, -7 and 0; enum 0 has three items, one bit each. The time is 40.
+// holds 5, -7 and 0; enum 0 has three items, one bit each. The time is 40. Signal 2 is a reset that is
+// active at 1.
 use crate::eval::operand;
 use crate::fault::Fault;
+use crate::generators::code;
 use crate::held::Held;
+use crate::language::MyHdl;
+use crate::locals::first_locals;
 use crate::store::Store;
 use mh_design::{
-    BinaryOp, Design, Encoding, EnumDecl, GExpr, Kind, MemDecl, SignalDecl, TableDecl, UnaryOp,
-    well_formed,
+    BinaryOp, Design, Encoding, EnumDecl, GExpr, Kind, MemDecl, ResetDecl, SignalDecl, TableDecl,
+    UnaryOp, well_formed,
 };
 use mh_num::Bounds;
 use mh_signals::{Limits, Signals};
@@ -24,19 +28,19 @@ const BYTE: Bounds = Bounds {
     wraps: false,
 };
 
-const NIBBLE: Bounds = Bounds {
+pub const NIBBLE: Bounds = Bounds {
     lo: 0,
     top: 15,
     wraps: false,
 };
 
-const SIGNED: Bounds = Bounds {
+pub const SIGNED: Bounds = Bounds {
     lo: -8,
     top: 7,
     wraps: false,
 };
 
-const RING: Bounds = Bounds {
+pub const RING: Bounds = Bounds {
     lo: 0,
     top: 7,
     wraps: true,
@@ -44,7 +48,7 @@ const RING: Bounds = Bounds {
 
 /// A word of an expression in postfix order.
 #[derive(Clone, Copy)]
-enum Word {
+pub enum Word {
     Number(i128),
     Signal(u32),
     Other(Leaf),
@@ -54,7 +58,7 @@ enum Word {
 }
 
 #[derive(Clone, Copy)]
-enum Leaf {
+pub enum Leaf {
     Truth(bool),
     Item(u32),
     Local(u32),
@@ -62,7 +66,7 @@ enum Leaf {
 }
 
 #[derive(Clone, Copy)]
-enum Prefix {
+pub enum Prefix {
     Sign(UnaryOp),
     Element,
     Table,
@@ -72,7 +76,7 @@ enum Prefix {
 }
 
 #[derive(Clone, Copy)]
-enum Infix {
+pub enum Infix {
     Sign(BinaryOp),
     Bit,
     And,
@@ -153,7 +157,7 @@ fn made(alloc: Global, word: Word, stack: &mut Items<GExpr>) -> Result<GExpr, Me
     }
 }
 
-fn expression(alloc: Global, words: &[Word]) -> Result<GExpr, Memory> {
+pub fn expression(alloc: Global, words: &[Word]) -> Result<GExpr, Memory> {
     let mut stack = Items::new(alloc);
     for word in words {
         let e = made(alloc, *word, &mut stack)?;
@@ -172,11 +176,16 @@ fn declared(alloc: Global, path: &[u8], kind: Kind, init: i128) -> Result<Signal
     })
 }
 
-fn signals(alloc: Global) -> Result<Items<SignalDecl>, Memory> {
+fn signals(alloc: Global, t: i128) -> Result<Items<SignalDecl>, Memory> {
     let mut all = Items::new(alloc);
     all.push(declared(alloc, b"s", Kind::Bits(SIGNED), -3)?)?;
     all.push(declared(alloc, b"u", Kind::Bits(BYTE), 171)?)?;
-    all.push(declared(alloc, b"t", Kind::Bool, 1)?)?;
+    let mut reset = declared(alloc, b"t", Kind::Bool, t)?;
+    reset.reset = Some(ResetDecl {
+        active: true,
+        asynchronous: false,
+    });
+    all.push(reset)?;
     all.push(declared(alloc, b"m", Kind::Bits(RING), 6)?)?;
     Ok(all)
 }
@@ -215,11 +224,11 @@ fn enums(alloc: Global) -> Result<Items<EnumDecl>, Memory> {
     Ok(all)
 }
 
-fn design(alloc: Global) -> Result<Design, Memory> {
+pub fn design(alloc: Global, t: i128) -> Result<Design, Memory> {
     Ok(Design {
         name: Text::new(alloc, b"top")?,
         ports: Items::new(alloc),
-        signals: signals(alloc)?,
+        signals: signals(alloc, t)?,
         mems: memories(alloc)?,
         tables: tables(alloc)?,
         enums: enums(alloc)?,
@@ -240,13 +249,13 @@ fn store<'a>(rt: &impl Abort, alloc: Global, d: &'a Design) -> Result<Store<'a>,
 /// What is compared of a value or a fault: a value alone, or the code of a fault and its numbers.
 type Shown = Result<i128, (Code, i128, i128, i128)>;
 
-fn shown_fault(f: &Fault) -> (Code, i128, i128, i128) {
+pub fn shown_fault(f: &Fault) -> (Code, i128, i128, i128) {
     let n = f.numbers();
     (n.code, n.value, n.low, n.high)
 }
 
 fn shown(rt: &impl Abort, alloc: Global, words: &[Word]) -> Result<Shown, Memory> {
-    let d = design(alloc)?;
+    let d = design(alloc, 1)?;
     let s = store(rt, alloc, &d)?;
     let e = expression(alloc, words)?;
     match operand(&s, &e) {
@@ -255,11 +264,11 @@ fn shown(rt: &impl Abort, alloc: Global, words: &[Word]) -> Result<Shown, Memory
     }
 }
 
-const S: Word = Word::Signal(0);
+pub const S: Word = Word::Signal(0);
 
 const U: Word = Word::Signal(1);
 
-const T: Word = Word::Signal(2);
+pub const T: Word = Word::Signal(2);
 
 const M: Word = Word::Signal(3);
 

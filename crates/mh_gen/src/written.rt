@@ -1,10 +1,10 @@
 // The expressions and left sides of bodies.
-ghost use Rattle.std.specs.Prelude.{◌≡◌, ◌≤◌, ◌-ℤ◌, pos, length, IsTrue, Ok, Err, IfOk};
+ghost use Rattle.std.specs.Prelude.{◌≡◌, ◌-ℤ◌, length, IsTrue, Ok, Err, IfOk};
 ghost use Rattle.std.specs.Option.{option_map_or};
 ghost use Rattle.std.specs.Ordering.{int_eq};
 ghost use Rattle.mh_num.specs.Results.{in_i128};
 ghost use Rattle.mh_design.specs.Constants.{number_of_truth};
-ghost use Rattle.mh_design.specs.Tree.{expression_of, base_of, left_of};
+ghost use Rattle.mh_design.specs.Tree.{base_of, left_of};
 ghost use Rattle.mh_design.specs.Values as spec;
 ghost use Rattle.mh_design.specs.Assignments as assignment;
 ghost use Rattle.mh_gen.specs.Answers.{Assigns, IsThere};

@@ -3,3 +3,4 @@ pub mod ReadingLaws
 pub mod Readings
 pub mod Values
 pub mod Woken
+pub mod Holdings

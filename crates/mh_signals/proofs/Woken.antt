@@ -9,7 +9,7 @@ use Rattle.mh_design.specs.declared.design.EnumDecl.{EnumDecl}
 use Rattle.mh_design.specs.declared.design.Kind.{Kind}
 use Rattle.mh_design.specs.declared.design.Kind.TheVariants as kind
 use Rattle.mh_design.specs.declared.design.SignalDecl.{SignalDecl}
-use Rattle.mh_design.specs.Enums.{any_below, encoding_width}
+use Rattle.mh_design.specs.Enums.{encoding_width}
 use Rattle.mh_design.specs.WellFormed as formed
 use Rattle.mh_design.specs.Values.{limits_of}
 use Rattle.mh_design.specs.Deltas.{first_waiter}
@@ -33,18 +33,11 @@ all-at p [] k d e h = absurd (omega (arith, h))
 all-at p (x ∷ xs) zero d e h = both-left (p x) (list_all p xs) e
 all-at p (x ∷ xs) (suc k) d e h = all-at p xs k d (both-right (p x) (list_all p xs) e) (omega (arith, h))
 
-some-below : (n : ℕ) (t : ℕ → Bool) → any_below n t ≡ true → 0 < n
-some-below zero t e = absurd cc
-some-below (suc n) t e = omega arith
-
 -- an item's value has a code
-coded : (x : EnumDecl) (z : ℤ) → formed.is_item_value x z ≡ true → (encoding_width x.encoding (length x.names) ≤ 127) × (0 < length x.names)
-coded x z e =
-    let a = both-left (formed.enum_fits x) _ e in
-    let b = both-right (formed.enum_fits x) _ e in
-    (leb-true (encoding_width x.encoding (length x.names)) 127 a, some-below (length x.names) _ b)
+coded : (x : EnumDecl) (z : ℤ) → formed.is_item_value x z ≡ true → encoding_width x.encoding (length x.names) ≤ 127
+coded x z e = leb-true (encoding_width x.encoding (length x.names)) 127 (both-left (formed.enum_fits x) _ e)
 
-found : (o : Option EnumDecl) (z : ℤ) → option_map_or (λ x. formed.is_item_value x z) o false ≡ true → IfSome o (λ x. (encoding_width x.encoding (length x.names) ≤ 127) × (0 < length x.names))
+found : (o : Option EnumDecl) (z : ℤ) → option_map_or (λ x. formed.is_item_value x z) o false ≡ true → IfSome o (λ x. encoding_width x.encoding (length x.names) ≤ 127)
 found None z e = tt
 found (Some x) z e = coded x z e
 

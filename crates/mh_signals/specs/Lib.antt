@@ -1,3 +1,4 @@
 pub mod Reading
 pub mod Seen
 pub mod Woken
+pub mod Holding

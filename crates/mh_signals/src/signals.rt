@@ -1,8 +1,9 @@
-ghost use Rattle.std.specs.Prelude.{◌≡◌, ◌≤◌, ◌<◌, ◌↔◌, IsTrue, length, map, pos, slice_index_or, slice_set, Ok, Err, IfOk, IfErr};
+ghost use Rattle.std.specs.Prelude.{◌≡◌, ◌≤◌, ◌<◌, IsTrue, length, map, pos, slice_index_or, slice_set, Ok, Err, IfOk, IfErr};
 ghost use Rattle.mh_design.specs.Values.{Signals as Seen, limits_of};
 ghost use Rattle.mh_design.specs.WellFormed.{is_well_formed};
 ghost use Rattle.mh_design.specs.Assignments.{next_set, part_set};
 ghost use Rattle.mh_design.specs.Deltas as spec;
+ghost use Rattle.mh_signals.specs.Holding.{held};
 ghost use Rattle.mh_signals.specs.Seen.{limits_seen};
 ghost use Rattle.mh_signals.specs.Woken.{woken_with};
 
@@ -112,6 +113,39 @@ impl Signals {
         ensures { result ≡ length self.now.waiters }
     {
         self.waiters.len()
+    }
+
+    /// A value is pending that differs from the current one.
+    pub fn is_pending(&self) -> bool
+        ensures { result ≡ spec.is_pending self.now }
+    {
+        differ(self.values.as_slice(), self.pending.as_slice())
+    }
+
+    /// What the generator waits for.
+    pub fn waits(&self, g: u32) -> &[Wait]
+        requires { g < length self.now.waiters }
+        ensures { result.now ≡ (spec.waiter_at self.now g).waits }
+    {
+        self.waiters[g as usize].waits()
+    }
+
+    /// Gives a signal the value that it has from before the start. An `OutOfBounds` comes exactly
+    /// where the value is outside the signal's bounds and they don't wrap, and changes nothing.
+    pub fn hold(&mut self, s: u32, v: i128) -> Result<(), OutOfBounds>
+        requires { s < length self.old.values }
+        ensures ok { IfOk result (λ _. held self.old s v ≡ Ok self.new) }
+        ensures err { IfErr result (λ e. (held self.old s v ≡ Err e) × (self.new ≡ self.old)) }
+    {
+        let taken = self.limits[s as usize].take(v);
+        match taken {
+            Ok(first) => {
+                put(&mut self.values, s as usize, first);
+                put(&mut self.pending, s as usize, first);
+                Ok(())
+            }
+            Err(outside) => Err(outside),
+        }
     }
 
     /// For how many waits of a generator there is room.

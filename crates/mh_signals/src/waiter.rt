@@ -85,6 +85,13 @@ impl Waiter {
         self.room
     }
 
+    /// What it waits for.
+    pub fn waits(&self) -> &[Wait]
+        ensures { result.now ≡ self.now.waits }
+    {
+        self.waits.as_slice()
+    }
+
     /// One of its waits has happened since it began to wait.
     pub fn is_woken(&self) -> bool
         ensures { result ≡ self.now.woken }

@@ -1,4 +1,4 @@
-use Rattle.std.proofs.Common.{ℕ, ℤ, pos, ◌-◌, ◌^◌, ◌≡◌, ◌≤ℤ◌, ◌∙◌, rules, arith}
+use Rattle.std.proofs.Common.{pos, ◌∙◌, rules, arith}
 use Rattle.std.proofs.lemmas.Int.{to_z-of_z, ints}
 use Rattle.std.specs.Int.{w128}
 use Rattle.std.specs.Int.RustNames.{FitsSigned}

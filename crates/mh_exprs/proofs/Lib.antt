@@ -1,0 +1,5 @@
+pub mod ConstantForms
+pub mod Forms
+pub mod Integers
+pub mod Rows
+pub mod Deep

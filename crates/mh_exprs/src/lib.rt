@@ -1,0 +1,31 @@
+//! The expressions of generators: reads an expression of a body into one of the flat design with its
+//! kind, and meets the memories and tables that it indexes. Its main promise: `read` answers exactly the
+//! expression and the design after it, or the first broken rule from left to right, that the definition
+//! of reading gives.
+#![tactic(auto)]
+
+mod calls;
+mod constant;
+mod expression;
+mod fault;
+mod leaves;
+mod locals;
+mod memories;
+mod names;
+mod operations;
+#[cfg(test)]
+mod tests;
+mod typed;
+
+pub use calls::{
+    all_positional, callee_named, callee_of, form_of, is_maker, is_named_call, outside_in,
+};
+pub use constant::{folds, is_attribute, is_local, known, name_in, names_local, outside};
+pub use expression::{part, read};
+pub use fault::Fault;
+pub use leaves::{integer, is_assigned, kind_at, leaf, local};
+pub use locals::Locals;
+pub use memories::{cell, place_in};
+pub use names::{Callee, Form, Plan};
+pub use operations::{bit_fits, bounds_in, is_word, operated, slice_fits, zero_end};
+pub use typed::{Row, Typed, Work};
