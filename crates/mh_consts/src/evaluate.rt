@@ -51,7 +51,7 @@ fn copies(alloc: Global, parts: &[Const]) -> Result<Items<Const>, Memory>
 
 /// The name that an expression is, brackets left out.
 #[tactic(auto, using(crate::proofs::Forms::forms))]
-pub(crate) fn name_in(e: &PyExpr) -> Option<&Text>
+pub fn name_in(e: &PyExpr) -> Option<&Text>
     ensures { option_copied result ≡ plain.name_in (ex_of e.now) }
 {
     match e {
@@ -79,7 +79,7 @@ pub(crate) fn name_in(e: &PyExpr) -> Option<&Text>
 
 /// The name of the attribute that an expression is, brackets left out.
 #[tactic(auto, using(crate::proofs::Forms::forms))]
-pub(crate) fn attribute_in(e: &PyExpr) -> Option<&Text>
+pub fn attribute_in(e: &PyExpr) -> Option<&Text>
     ensures { option_copied result ≡ plain.attribute_name (plain.attribute_in (ex_of e.now)) }
 {
     match e {
@@ -114,7 +114,7 @@ fn is_method(f: &PyExpr) -> bool
 
 /// The name that an expression calls, brackets left out.
 #[tactic(auto, using(crate::proofs::Forms::forms))]
-fn maker(e: &PyExpr) -> Option<&Text>
+pub fn maker(e: &PyExpr) -> Option<&Text>
     ensures { option_copied result ≡ plain.maker (ex_of e.now) }
 {
     match e {

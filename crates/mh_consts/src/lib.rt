@@ -21,11 +21,13 @@ mod shared;
 #[cfg(test)]
 mod tests;
 
-pub use evaluate::{operate, value};
+pub use evaluate::{attribute_in, maker, name_in, operate, value};
 pub use kinds::{Builtin, Const, SignalKind};
 pub use laws::{binding_law, value_law};
 pub use names::Names;
-pub use numbers::{operand, truth};
+pub use numbers::{content, operand, truth};
+pub use operators::operated;
+pub use places::place;
 pub use plain::is_plain;
 pub use scope::{Lists, Scope};
 pub use shared::Shared;

@@ -1,5 +1,6 @@
 //! Names in order of first binding, and what each is bound to now.
-ghost use Rattle.std.specs.Prelude.{◌≡◌, [], OnOk, OnErr, option_copied};
+ghost use Rattle.std.specs.Prelude.{◌≡◌, [], OnOk, OnErr, option_copied, slice_get};
+ghost use Rattle.std.specs.Option.{option_map};
 ghost use Rattle.mh_consts.specs.Names.{lookup, bind};
 
 use crate::key::{Key, Sought};
@@ -38,6 +39,30 @@ impl<V: Drop> Names<V> {
         ensures { option_copied result ≡ lookup self.now name.now }
     {
         self.map.get(Sought { name })
+    }
+
+    /// What the name at a place in order of first binding is bound to, lent; `None` exactly where there
+    /// are no more.
+    pub fn value_at(&self, place: usize) -> Option<&V>
+        ensures { option_copied result ≡ option_map (λ e. e.1) (slice_get self.now place) }
+    {
+        match self.map.get_index(place) {
+            Some(entry) => Some(entry.1),
+            None => None,
+        }
+    }
+
+    /// The name at a place in order of first binding, lent; `None` exactly where there are no more.
+    pub fn name_at(&self, place: usize) -> Option<&Text>
+        ensures { option_copied result ≡ option_map (λ e. e.0) (slice_get self.now place) }
+    {
+        match self.map.get_index(place) {
+            Some(entry) => {
+                let key: &Key = entry.0;
+                Some(&key.name)
+            }
+            None => None,
+        }
     }
 
     /// Binds a name. A name that is bound already keeps its place. After want of memory nothing is

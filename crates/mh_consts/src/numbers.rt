@@ -37,7 +37,7 @@ pub(crate) fn argument(v: &Const) -> Result<i128, Code>
 }
 
 /// The number of an argument of `intbv` or `modbv`.
-pub(crate) fn content(v: &Const) -> Result<i128, Code>
+pub fn content(v: &Const) -> Result<i128, Code>
     ensures { result ≡ spec.content v.now }
 {
     number(v, Code::E3BadArguments, Code::E3BadArguments)

@@ -239,7 +239,7 @@ fn bitwise(op: Operator, a: &Const, b: &Const) -> Result<Const, Code>
 }
 
 /// An operator between two values that were both evaluated.
-pub(crate) fn operated(op: Operator, a: &Const, b: &Const) -> Result<Const, Code>
+pub fn operated(op: Operator, a: &Const, b: &Const) -> Result<Const, Code>
     ensures { result ≡ spec.operated op a.now b.now }
 {
     match op {

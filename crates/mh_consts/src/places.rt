@@ -117,7 +117,7 @@ fn place_below(n: usize, i: i128) -> Result<usize, Code>
 }
 
 /// A value as a place below `n`.
-fn place(n: usize, v: &Const) -> Result<usize, Code>
+pub fn place(n: usize, v: &Const) -> Result<usize, Code>
     ensures { result ≡ spec.place n v.now }
 {
     let i = operand(v)?;

@@ -1,0 +1,10 @@
+pub mod Bindings
+pub mod Bodies
+pub mod Body
+pub mod Generators
+pub mod Paths
+pub mod Run
+pub mod Statements
+pub mod Targets
+pub mod Views
+pub mod Waits
