@@ -14,12 +14,8 @@ mod numbers;
 mod operators;
 mod places;
 mod plain;
-#[cfg(test)]
-mod samples;
 mod scope;
 mod shared;
-#[cfg(test)]
-mod tests;
 
 pub use evaluate::{attribute_in, maker, name_in, operate, value};
 pub use kinds::{Builtin, Const, SignalKind};

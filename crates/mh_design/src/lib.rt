@@ -13,16 +13,10 @@ mod exits;
 mod expression;
 mod kinds;
 mod laws;
-#[cfg(test)]
-mod samples;
 mod sizes;
 mod statement;
 mod statements;
-#[cfg(test)]
-mod tests;
 mod uses;
-#[cfg(test)]
-mod uses_tests;
 mod validity;
 
 pub use assigned::{Flow, ends_give_turn, is_assigned_first, rises};

@@ -13,8 +13,6 @@ mod locals;
 mod memories;
 mod names;
 mod operations;
-#[cfg(test)]
-mod tests;
 mod typed;
 
 pub use calls::{

@@ -24,7 +24,7 @@ use Rattle.mh_exprs.specs.Leaves.{kind_at}
 use Rattle.mh_lower.specs.Paths.{Paths, meet, breaks, continues, stops, goes_on, enters, leaves, turn, turned}
 use Rattle.mh_design.specs.declared.design.Design.{Design}
 use Rattle.mh_lower.specs.Run.{Broken, Run, gives, refused, look, change, at, does, ◌>>=◌, ◌>>◌}
-use Rattle.mh_lower.specs.Statements.{assign, augment, by_itself, yields, is_stop_call, claim, test, ends}
+use Rattle.mh_lower.specs.Statements.{assign, augment, by_itself, yields, is_stop_call, claim, condition, ends}
 use Rattle.mh_exprs.specs.Step.{Step, pure, refuse, just}
 use Rattle.mh_exprs.specs.Step as step
 
@@ -65,7 +65,7 @@ has_turns x = has_turn x.down x.step (expression_of x.from) (expression_of x.to)
 
 unfoldable pub while_line : Scope → Locals → ℕ → Ex → Run (List Statement) → Run Statement
 while_line s ls l e body = do
-  t ← at l (λ w. test s ls w e)
+  t ← at l (λ w. condition s ls w e)
   before ← look
   change (enters before.here)
   ss ← body
@@ -84,7 +84,7 @@ for_line s ls l v over body = do
 -- a branch: its condition, and what it leads to
 unfoldable pub branch_line : Scope → Locals → ℕ → Ex → Run (List Statement) → Run Arm
 branch_line s ls l e body = do
-  t ← at l (λ w. test s ls w e)
+  t ← at l (λ w. condition s ls w e)
   ss ← body
   gives (ArmOf (expression_of t.expr) (block ss))
 

@@ -114,14 +114,14 @@ augment s ls w l op target e = augment_by s ls w l op (x.name_in target) target 
 abbrev pub number : Typed → Result Typed Code
 number t = if is_number t.kind then Ok t else Err E10KindClash
 
-unfoldable pub test : Scope → Locals → Work → Ex → Step Typed
-test s ls w e = do
+unfoldable pub condition : Scope → Locals → Work → Ex → Step Typed
+condition s ls w e = do
   t ← read s ls w false e
   just (number t)
 
 unfoldable pub claim : Scope → Locals → Work → ℕ → Ex → Step Statement
 claim s ls w l e = do
-  t ← test s ls w e
+  t ← condition s ls w e
   pure (Assert l (expression_of t.expr))
 
 -- ---- printing: strings, and integer expressions

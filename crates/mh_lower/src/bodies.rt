@@ -18,7 +18,7 @@ ghost use Rattle.mh_exprs.specs.Step.{Changes, Grows, just};
 use crate::bindings::set_kind;
 use crate::fault::Stop;
 use crate::paths::{breaks, continues, copy, enters, leaves, leaves_turns, meet, turn};
-use crate::statements::{assign, augment, by_itself, claim, ends, is_stop_call, test, yields};
+use crate::statements::{assign, augment, by_itself, claim, condition, ends, is_stop_call, yields};
 use crate::typed::Ends;
 use mh_consts::Scope;
 use mh_design::{Branch, Design, GStmt, Kind, constant_of, ends_give_turn, is_int_kind};
@@ -125,9 +125,9 @@ fn test_at(
     w: &Work,
     d: &mut Design,
 ) -> Result<Boxed<Typed>, Stop>
-    ensures { Runs (λ t. t) (placed line w.now (statement.test s.now locals.now w.now (ex_of e.now) d.old)) result w.now d.new }
+    ensures { Runs (λ t. t) (placed line w.now (statement.condition s.now locals.now w.now (ex_of e.now) d.old)) result w.now d.new }
 {
-    let t = placed!(line, test(alloc, s, locals, w, e, d));
+    let t = placed!(line, condition(alloc, s, locals, w, e, d));
     Ok(Boxed::new(alloc, t)?)
 }
 

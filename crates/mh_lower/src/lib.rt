@@ -13,8 +13,6 @@ mod names;
 mod paths;
 mod statements;
 mod targets;
-#[cfg(test)]
-mod tests;
 mod typed;
 mod waits;
 

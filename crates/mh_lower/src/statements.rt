@@ -248,8 +248,8 @@ fn number(t: Boxed<Typed>) -> Result<Typed, Code>
 }
 
 /// A condition, which is a number.
-#[tactic(auto, unfolding(crate::specs::Statements::test))]
-pub(crate) fn test(
+#[tactic(auto, unfolding(crate::specs::Statements::condition))]
+pub(crate) fn condition(
     alloc: Global,
     s: &Scope,
     locals: &Locals,
@@ -257,7 +257,7 @@ pub(crate) fn test(
     e: &PyExpr,
     d: &mut Design,
 ) -> Result<Typed, Fault>
-    ensures { Grows (spec.test s.now locals.now w.now (ex_of e.now) d.old) result d.new }
+    ensures { Grows (spec.condition s.now locals.now w.now (ex_of e.now) d.old) result d.new }
 {
     let t = part(alloc, s, locals, w, false, e, d)?;
     Ok(number(t)?)
@@ -276,7 +276,7 @@ pub(crate) fn claim(
 ) -> Result<GStmt, Fault>
     ensures { Reads statement_of (spec.claim s.now locals.now w.now line (ex_of e.now) d.old) result d.new }
 {
-    let t = test(alloc, s, locals, w, e, d)?;
+    let t = condition(alloc, s, locals, w, e, d)?;
     Ok(GStmt::Assert { line, test: t.expr })
 }
 

@@ -18,7 +18,7 @@ use Rattle.mh_lower.specs.Bodies.{with_any, some, one, begins, has_turns, while_
 use Rattle.mh_lower.specs.Paths.{Paths, meet, breaks, continues, stops, goes_on, enters, leaves, turn, turned}
 use Rattle.mh_lower.specs.Run as run
 use Rattle.mh_lower.specs.Run.{Broken, Run, gives, refused, look, change, at, does}
-use Rattle.mh_lower.specs.Statements.{Made, assign, augment, by_itself, yields, is_stop_call, claim, test}
+use Rattle.mh_lower.specs.Statements.{Made, assign, augment, by_itself, yields, is_stop_call, claim, condition}
 use Rattle.mh_exprs.specs.Step.{Step, just}
 use Rattle.mh_lower_laws.specs.Holds.{Holds, Extends}
 use Rattle.mh_lower_laws.specs.Laws.{Known}
@@ -156,9 +156,9 @@ module _ (s : Scope) (locals : Locals) (n : ℕ) (numbered : (t : List ℕ) (v :
   AllTests : Work → Typed → Design → Type 0
   AllTests w t f = (ls : List Variable) → KindsIn w ls → HasNumber w ls f (expression_of t.expr)
 
-  tests_lead : (w : Work) (d : Design) (e : Ex) → Holds s d → Sized n w → KindsFit w d → keys_fit e ≡ true → Leads s (AllTests w) d (test s locals w e d)
+  tests_lead : (w : Work) (d : Design) (e : Ex) → Holds s d → Sized n w → KindsFit w d → keys_fit e ≡ true → Leads s (AllTests w) d (condition s locals w e d)
   unfolding AllTests
-  tests_lead w d e h z f k = leads_all s w (λ ls t f. HasNumber w ls f (expression_of t.expr)) d (test s locals w e d) (λ ls i. test_leads s locals n numbered instance ls w z d h (record { kinds = i; fit = f }) e k)
+  tests_lead w d e h z f k = leads_all s w (λ ls t f. HasNumber w ls f (expression_of t.expr)) d (condition s locals w e d) (λ ls i. test_leads s locals n numbered instance ls w z d h (record { kinds = i; fit = f }) e k)
 
   -- ---- statements that hold others, by what reads these
 
@@ -169,9 +169,9 @@ module _ (s : Scope) (locals : Locals) (n : ℕ) (numbered : (t : List ℕ) (v :
   while_goes : (loop : Bool) (l : ℕ) (e : Ex) (w : Work) (d : Design) (p : Run (List Statement)) → keys_fit e ≡ true → Holds s d → Sized n w → KindsFit w d → Reads true (enters w.here w) p → MakesOne loop w d (while_line s locals l e p)
   unfolding while_line AllTests
   while_goes loop l e w d p k h z fit body =
-      runs_then s (λ t y f. (y ≡ w) × AllTests w t f) (λ st y f. One n instance loop w st y f) d (at l (λ w. test s locals w e) w d)
+      runs_then s (λ t y f. (y ≡ w) × AllTests w t f) (λ st y f. One n instance loop w st y f) d (at l (λ w. condition s locals w e) w d)
       (λ t y f. run.then (p (enters y.here y) f) (λ ss z g. gives (tree.While l (expression_of t.expr) (block ss)) (leaves y y.here z) g))
-      (runs_placed s (AllTests w) l w d (test s locals w e d) (tests_lead w d e h z fit k))
+      (runs_placed s (AllTests w) l w d (condition s locals w e d) (tests_lead w d e h z fit k))
       (λ t y f x later i. subst (λ y. Runs s (λ st y f. One n instance loop w st y f) f (run.then (p (enters y.here y) f) (λ ss z g. gives (tree.While l (expression_of t.expr) (block ss)) (leaves y y.here z) g))) (sym i.0)
       (runs_then s (λ ss z g. Goes n instance true [] (enters w.here w) ss z g) (λ st y f. One n instance loop w st y f) f (p (enters w.here w) f) (λ ss z g. gives (tree.While l (expression_of t.expr) (block ss)) (leaves w w.here z) g)
       (body f later (fit_later w d f x fit))
@@ -195,9 +195,9 @@ module _ (s : Scope) (locals : Locals) (n : ℕ) (numbered : (t : List ℕ) (v :
       Runs s (λ r z g. Branched n instance loop w (with_branch done r z) z g) d (branch_line s locals l e p (goes_on w.here y) d)
   unfolding branch_line AllTests
   branch_goes loop l e w done y d p k h z b body =
-      runs_then s (λ t v f. (v ≡ goes_on w.here y) × AllTests (goes_on w.here y) t f) (λ r z g. Branched n instance loop w (with_branch done r z) z g) d (at l (λ w. test s locals w e) (goes_on w.here y) d)
+      runs_then s (λ t v f. (v ≡ goes_on w.here y) × AllTests (goes_on w.here y) t f) (λ r z g. Branched n instance loop w (with_branch done r z) z g) d (at l (λ w. condition s locals w e) (goes_on w.here y) d)
       (λ t v f. run.then (p v f) (λ ss z g. gives (ArmOf (expression_of t.expr) (block ss)) z g))
-      (runs_placed s (AllTests (goes_on w.here y)) l (goes_on w.here y) d (test s locals (goes_on w.here y) e d) (tests_lead (goes_on w.here y) d e h (goes_sized y w.here b.sized z) b.fit k))
+      (runs_placed s (AllTests (goes_on w.here y)) l (goes_on w.here y) d (condition s locals (goes_on w.here y) e d) (tests_lead (goes_on w.here y) d e h (goes_sized y w.here b.sized z) b.fit k))
       (λ t v f x later i. subst (λ v. Runs s (λ r z g. Branched n instance loop w (with_branch done r z) z g) f (run.then (p v f) (λ ss z g. gives (ArmOf (expression_of t.expr) (block ss)) z g))) (sym i.0)
       (runs_then s (λ ss z g. Goes n instance loop [] (goes_on w.here y) ss z g) (λ r z g. Branched n instance loop w (with_branch done r z) z g) f (p (goes_on w.here y) f) (λ ss z g. gives (ArmOf (expression_of t.expr) (block ss)) z g)
       (body f later (fit_later y d f x b.fit))

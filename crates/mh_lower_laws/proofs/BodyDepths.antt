@@ -20,7 +20,7 @@ use Rattle.mh_lower.specs.Bodies.{with_any, some, variable, begins, while_line, 
 use Rattle.mh_lower.specs.Paths.{Paths, breaks, continues, stops}
 use Rattle.mh_lower.specs.Run as run
 use Rattle.mh_lower.specs.Run.{Broken, Run, placed, placed_with, at, does}
-use Rattle.mh_lower.specs.Statements.{assign, augment, by_itself, yields, is_stop_call, claim, test, ends}
+use Rattle.mh_lower.specs.Statements.{assign, augment, by_itself, yields, is_stop_call, claim, condition, ends}
 use Rattle.mh_lower_laws.proofs.Depths.{ex_depth, Deep, chain_deep, any_chain}
 use Rattle.mh_lower_laws.proofs.StatementDepths.{just_gives, assign_deep, augment_deep, test_deep, claim_deep, AnyDeep, by_itself_deep, yields_deep, DeepEnds, ends_deep}
 
@@ -137,7 +137,7 @@ module _ (s : Scope) (locals : Locals) (instance : Bool) where
   while_deep : (l k : ℕ) (e : Ex) (p : Run (List Statement)) (w : Work) (d : Design) → ex_depth e ≤ k → ReadsDeep k p → RunGives (λ st. statement_is_within st (suc k) ≡ true) (while_line s locals l e p w d)
   unfolding while_line
   while_deep l k e p w d h i =
-      then_gives (Deep k) (λ st. statement_is_within st (suc k) ≡ true) (at l (λ w. test s locals w e) w d) _ (placed_gives (Deep k) l w (test s locals w e d) (test_deep s locals w k d e h))
+      then_gives (Deep k) (λ st. statement_is_within st (suc k) ≡ true) (at l (λ w. condition s locals w e) w d) _ (placed_gives (Deep k) l w (condition s locals w e d) (test_deep s locals w k d e h))
       (λ t y f q. then_gives (BlockWithin k) (λ st. statement_is_within st (suc k) ≡ true) (p _ f) _ (i _ f)
       (λ ss z g b. and_from (nat_lt 0 (suc k)) _ (some_level k) (down (λ m. is_within (expression_of t.expr) m && block_is_within (block ss) m) k (and_from (is_within (expression_of t.expr) k) (block_is_within (block ss) k) q b))))
 
@@ -159,7 +159,7 @@ module _ (s : Scope) (locals : Locals) (instance : Bool) where
   branch_deep : (l k : ℕ) (e : Ex) (p : Run (List Statement)) (w : Work) (d : Design) → ex_depth e ≤ k → ReadsDeep k p → RunGives (λ r. arm_is_within r k ≡ true) (branch_line s locals l e p w d)
   unfolding branch_line
   branch_deep l k e p w d h i =
-      then_gives (Deep k) (λ r. arm_is_within r k ≡ true) (at l (λ w. test s locals w e) w d) _ (placed_gives (Deep k) l w (test s locals w e d) (test_deep s locals w k d e h))
+      then_gives (Deep k) (λ r. arm_is_within r k ≡ true) (at l (λ w. condition s locals w e) w d) _ (placed_gives (Deep k) l w (condition s locals w e d) (test_deep s locals w k d e h))
       (λ t y f q. then_gives (BlockWithin k) (λ r. arm_is_within r k ≡ true) (p y f) _ (i y f) (λ ss z g b. and_from (is_within (expression_of t.expr) k) (block_is_within (block ss) k) q b))
 
   if_deep : (l k : ℕ) (p : Paths → Run Branches) (q : Run (List Statement)) (w : Work) (d : Design) → RunGives (λ done. arms_are_within (arms done.0) k ≡ true) (p w.here w d) → ReadsDeep k q → RunGives (λ st. statement_is_within st (suc k) ≡ true) (if_line l p q w d)

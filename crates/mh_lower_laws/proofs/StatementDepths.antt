@@ -301,13 +301,13 @@ module _ (s : Scope) (locals : Locals) (w : Work) (k : ℕ) where
   update_deep l v t (Some (kind.Bits b)) h = ok_if DeepMade (takes (kind.Bits b) t.kind) _ _ (λ q. set_within l (Whole (LeftLocal v)) (expression_of t.expr) refl h) (λ q. tt)
   update_deep l v t o h = bind_deep l v (record { value = t; binding = binding.Plain }) h
 
-  pub test_deep : (d : Design) (e : Ex) → ex_depth e ≤ k → GivesStep (Deep k) d (spec.test s locals w e)
-  unfolding spec.test
+  pub test_deep : (d : Design) (e : Ex) → ex_depth e ≤ k → GivesStep (Deep k) d (spec.condition s locals w e)
+  unfolding spec.condition
   test_deep d e h = chain_deep (Deep k) (Deep k) d (read s locals w false e) _ (reads_deep s locals w false e k d h) (λ t g i. just_deep k g (spec.number t) (ok_if (Deep k) (is_number t.kind) _ _ (λ q. i) (λ q. tt)))
 
   pub claim_deep : (d : Design) (l : ℕ) (e : Ex) → ex_depth e ≤ k → GivesStep (DeepStatement k) d (spec.claim s locals w l e)
   unfolding spec.claim
-  claim_deep d l e h = chain_deep (Deep k) (DeepStatement k) d (spec.test s locals w e) _ (test_deep d e h) (λ t g i. level (is_within (expression_of t.expr) (suc k - 1)) (below (is_within (expression_of t.expr)) i))
+  claim_deep d l e h = chain_deep (Deep k) (DeepStatement k) d (spec.condition s locals w e) _ (test_deep d e h) (λ t g i. level (is_within (expression_of t.expr) (suc k - 1)) (below (is_within (expression_of t.expr)) i))
 
   -- ---- printing
 

@@ -289,8 +289,8 @@ module _ (s : Scope) (locals : Locals) (n : ℕ) (numbered : (t : List ℕ) (v :
     number_has : (f : Design) (t : Typed) → Has w ls f t → IfOk (spec.number t) (λ t. HasNumber w ls f (expression_of t.expr))
     number_has f t i = ok_if (λ t. HasNumber w ls f (expression_of t.expr)) (is_number t.kind) (Ok t) (Err E10KindClash) (λ q. number_of w ls f t i q) (λ q. tt)
 
-    pub test_leads : (e : Ex) → keys_fit e ≡ true → Leads s (λ t f. HasNumber w ls f (expression_of t.expr)) d (spec.test s locals w e d)
-    unfolding spec.test
+    pub test_leads : (e : Ex) → keys_fit e ≡ true → Leads s (λ t f. HasNumber w ls f (expression_of t.expr)) d (spec.condition s locals w e d)
+    unfolding spec.condition
     test_leads e k = leads_after s (λ t f. Has w ls f t) (λ t f. HasNumber w ls f (expression_of t.expr)) d (read s locals w false e d) (λ t. just (spec.number t)) (reads s locals w ls false e d k h known)
         (λ t f x later i. leads_just s (λ t f. HasNumber w ls f (expression_of t.expr)) f later (spec.number t) (number_has f t i))
 
@@ -301,7 +301,7 @@ module _ (s : Scope) (locals : Locals) (n : ℕ) (numbered : (t : List ℕ) (v :
 
     pub claim_leads : (l : ℕ) (e : Ex) → keys_fit e ≡ true → Stays d (spec.claim s locals w l e)
     unfolding spec.claim
-    claim_leads l e k = leads_after s (λ t f. HasNumber w ls f (expression_of t.expr)) (λ st f. MadeAs n instance ls w (st, w) f) d (spec.test s locals w e d) (λ t. pure (Assert l (expression_of t.expr))) (test_leads e k)
+    claim_leads l e k = leads_after s (λ t f. HasNumber w ls f (expression_of t.expr)) (λ st f. MadeAs n instance ls w (st, w) f) d (spec.condition s locals w e d) (λ t. pure (Assert l (expression_of t.expr))) (test_leads e k)
         (λ t f x later i. leads_pure s (λ st f. MadeAs n instance ls w (st, w) f) f later (Assert l (expression_of t.expr)) (claim_made f l (expression_of t.expr) (known_later w ls d f x known).fit i))
 
   -- ---- printing

@@ -2,7 +2,7 @@
 //! what stands inside may be.
 
 ghost use Rattle.std.specs.Prelude.{◌≡◌, ◌<◌, ◌≤◌, ◌+◌, ◌^◌, [], ◌∷◌, max, IfOk};
-ghost use Rattle.mh_reader.specs.Reader.{Reads, chain, expect, many, pure};
+ghost use Rattle.mh_reader.specs.Reader.{Reads, behind, chain, expect, many, pure};
 ghost use Rattle.mh_pytree.specs.declared.expression.PyExpr.TheVariants as tree;
 ghost use Rattle.mh_pyparse.specs.Signs.{rbracket};
 ghost use Rattle.mh_pyparse.specs.Reading as spec;
@@ -18,6 +18,15 @@ use mh_text::Text;
 use sqlite_items::{Boxed, Items};
 use std::alloc::Global;
 
+/// A tree of one token, which is taken.
+fn taken(tokens: &mut Tokens<'_>, tree: PyExpr) -> (PyExpr, usize)
+    ensures tree { result ≡ (tree, 1) }
+    ensures token { tokens.new ≡ behind tokens.old }
+{
+    tokens.take();
+    (tree, 1)
+}
+
 /// What a token is by itself.
 #[tactic(auto, unfolding(mh_reader::specs::Reader::chain, mh_reader::specs::Reader::want, crate::specs::Reading::leaf, crate::specs::Reading::leaf_of, crate::specs::Reading::word_leaf))]
 fn leaf(alloc: Global, tokens: &mut Tokens<'_>) -> Result<(PyExpr, usize), Fault>
@@ -27,17 +36,24 @@ fn leaf(alloc: Global, tokens: &mut Tokens<'_>) -> Result<(PyExpr, usize), Fault
     let Some(kind) = tokens.peek() else {
         return Err(Fault::Syntax);
     };
-    let found = match kind {
-        Tok::Name => PyExpr::Name(Text::new(alloc, tokens.text())?),
-        Tok::Number => PyExpr::Number(tokens.number()),
-        Tok::Str => PyExpr::Str(tokens.string(alloc)?),
-        Tok::Keyword(1) => PyExpr::False,
-        Tok::Keyword(2) => PyExpr::None,
-        Tok::Keyword(3) => PyExpr::True,
-        _ => return Err(Fault::Syntax),
-    };
-    tokens.take();
-    Ok((found, 1))
+    match kind {
+        Tok::Name => {
+            let name = Text::new(alloc, tokens.text())?;
+            Ok(taken(tokens, PyExpr::Name(name)))
+        }
+        Tok::Number => {
+            let number = tokens.number();
+            Ok(taken(tokens, PyExpr::Number(number)))
+        }
+        Tok::Str => {
+            let text = tokens.string(alloc)?;
+            Ok(taken(tokens, PyExpr::Str(text)))
+        }
+        Tok::Keyword(1) => Ok(taken(tokens, PyExpr::False)),
+        Tok::Keyword(2) => Ok(taken(tokens, PyExpr::None)),
+        Tok::Keyword(3) => Ok(taken(tokens, PyExpr::True)),
+        _ => Err(Fault::Syntax),
+    }
 }
 
 /// One item of a list, or its closing sign.

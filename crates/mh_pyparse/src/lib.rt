@@ -10,8 +10,6 @@ mod laws;
 mod signs;
 mod small;
 mod stmt;
-#[cfg(test)]
-mod tests;
 mod text;
 
 pub use laws::one_tree;

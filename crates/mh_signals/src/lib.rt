@@ -18,6 +18,3 @@ pub use limits::Limits;
 pub use part::part_taken;
 pub use signals::Signals;
 pub use start::limits_of;
-
-#[cfg(test)]
-mod tests;

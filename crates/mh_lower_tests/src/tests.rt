@@ -1,7 +1,7 @@
 // Definitions of generators as MyHDL 0.11 has them, and what this project refuses.
-use super::*;
 use mh_consts::{Builtin, Const, Lists, Names, Scope, SignalKind};
 use mh_design::{Design, Generator, Kind, ResetDecl, SignalDecl};
+use mh_lower::*;
 use mh_num::Bounds;
 use mh_pyparse::parse;
 use mh_pytok::tokens;

@@ -1,8 +1,8 @@
 // Expressions of generators as MyHDL 0.11 gives them, and what this project refuses. They are written
 // with operators after their operands, one word each.
-use super::*;
 use mh_consts::{Builtin, Const, Lists, Names, Scope, Shared, SignalKind};
 use mh_design::{Design, Encoding, EnumDecl, Kind, SignalDecl, ValueKind};
+use mh_exprs::*;
 use mh_num::Bounds;
 use mh_pytree::{Argument, Operator, PyExpr, Sign};
 use mh_text::{Code, Memory, Text};
@@ -63,31 +63,31 @@ fn name(alloc: Global, word: &str) -> Result<Text, Memory> {
 fn two(alloc: Global, word: &str, a: PyExpr, b: PyExpr) -> Result<PyExpr, Memory> {
     let first = Boxed::new(alloc, a)?;
     let second = Boxed::new(alloc, b)?;
-    Ok(match operator(word) {
-        Some(op) => PyExpr::Binary(op, first, second),
+    match operator(word) {
+        Some(op) => Ok(PyExpr::Binary(op, first, second)),
         None => if word == "[]" {
-            PyExpr::Index(first, second)
+            Ok(PyExpr::Index(first, second))
         } else {
-            PyExpr::Slice(first, second, None)
+            Ok(PyExpr::Slice(first, second, None))
         },
-    })
+    }
 }
 
 fn one(alloc: Global, word: &str, a: PyExpr) -> Result<PyExpr, Memory> {
     let inner = Boxed::new(alloc, a)?;
-    Ok(if word == "neg" {
-        PyExpr::Unary(Sign::Minus, inner)
+    if word == "neg" {
+        Ok(PyExpr::Unary(Sign::Minus, inner))
     } else if word == "pos" {
-        PyExpr::Unary(Sign::Plus, inner)
+        Ok(PyExpr::Unary(Sign::Plus, inner))
     } else if word == "inv" {
-        PyExpr::Unary(Sign::Invert, inner)
+        Ok(PyExpr::Unary(Sign::Invert, inner))
     } else if word == "not" {
-        PyExpr::Not(inner)
+        Ok(PyExpr::Not(inner))
     } else if word == "(" {
-        PyExpr::Group(inner)
+        Ok(PyExpr::Group(inner))
     } else {
-        PyExpr::Whole(inner)
-    })
+        Ok(PyExpr::Whole(inner))
+    }
 }
 
 /// The last items of a stack.

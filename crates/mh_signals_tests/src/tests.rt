@@ -1,10 +1,7 @@
 // What the calls do with ample memory.
-use super::*;
-use crate::codes::Codes;
-use crate::limits::Limits;
-use crate::part::part_taken;
 use mh_design::{Design, Encoding, GenKind, Generator, Kind, SignalDecl, Wait, well_formed};
 use mh_num::{Bounds, OutOfBounds};
+use mh_signals::{Codes, Limits, part_taken, *};
 use mh_text::{Memory, Text};
 use sqlite_items::Items;
 use std::alloc::Global;

@@ -1,4 +1,4 @@
-use super::*;
+use mh_pyparse::*;
 use mh_pytok::tokens;
 use mh_pytree::{Module, Operator, PyExpr, PyStmt};
 use mh_text::{Code, Refusal};

@@ -1,9 +1,6 @@
 // Expressions for tests, written with operators after their operands, one word each, and a scope to
 // evaluate them in.
-use crate::kinds::{Builtin, Const, SignalKind};
-use crate::names::Names;
-use crate::scope::{Lists, Scope};
-use crate::shared::Shared;
+use mh_consts::{Builtin, Const, Lists, Names, Scope, Shared, SignalKind};
 use mh_num::Bounds;
 use mh_pytree::{Argument, Operator, PyExpr, Sign};
 use mh_text::{Memory, Text};
@@ -132,21 +129,21 @@ fn last(alloc: Global, stack: &mut Items<PyExpr>) -> Result<Boxed<PyExpr>, Fail>
 fn of_two(alloc: Global, how: Pair, stack: &mut Items<PyExpr>) -> Result<PyExpr, Fail> {
     let b = last(alloc, stack)?;
     let a = last(alloc, stack)?;
-    Ok(match how {
-        Pair::Operator(op) => PyExpr::Binary(op, a, b),
-        Pair::Index => PyExpr::Index(a, b),
-        Pair::SliceFrom => PyExpr::Slice(a, b, None),
-    })
+    match how {
+        Pair::Operator(op) => Ok(PyExpr::Binary(op, a, b)),
+        Pair::Index => Ok(PyExpr::Index(a, b)),
+        Pair::SliceFrom => Ok(PyExpr::Slice(a, b, None)),
+    }
 }
 
 fn of_one(alloc: Global, how: Single, stack: &mut Items<PyExpr>) -> Result<PyExpr, Fail> {
     let a = last(alloc, stack)?;
-    Ok(match how {
-        Single::Sign(sign) => PyExpr::Unary(sign, a),
-        Single::Not => PyExpr::Not(a),
-        Single::Group => PyExpr::Group(a),
-        Single::Whole => PyExpr::Whole(a),
-    })
+    match how {
+        Single::Sign(sign) => Ok(PyExpr::Unary(sign, a)),
+        Single::Not => Ok(PyExpr::Not(a)),
+        Single::Group => Ok(PyExpr::Group(a)),
+        Single::Whole => Ok(PyExpr::Whole(a)),
+    }
 }
 
 /// The name of the argument at a place.
@@ -159,13 +156,13 @@ fn key(keys: Keys, place: usize) -> Option<&'static str> {
 }
 
 fn argument(alloc: Global, key: Option<&str>, value: PyExpr) -> Result<Argument, Memory> {
-    Ok(match key {
-        None => Argument { name: None, value },
-        Some(word) => Argument {
+    match key {
+        None => Ok(Argument { name: None, value }),
+        Some(word) => Ok(Argument {
             name: Some(name(alloc, word)?),
             value,
-        },
-    })
+        }),
+    }
 }
 
 /// The arguments from the last to the first.
@@ -237,12 +234,12 @@ fn number_or_text(alloc: Global, word: &str) -> Result<PyExpr, Memory> {
 }
 
 fn name_or_word(alloc: Global, word: &str) -> Result<PyExpr, Memory> {
-    Ok(match word {
-        "True" => PyExpr::True,
-        "False" => PyExpr::False,
-        "None" => PyExpr::None,
-        _ => PyExpr::Name(name(alloc, word)?),
-    })
+    match word {
+        "True" => Ok(PyExpr::True),
+        "False" => Ok(PyExpr::False),
+        "None" => Ok(PyExpr::None),
+        _ => Ok(PyExpr::Name(name(alloc, word)?)),
+    }
 }
 
 fn made(alloc: Global, word: &str, stack: &mut Items<PyExpr>) -> Result<PyExpr, Fail> {

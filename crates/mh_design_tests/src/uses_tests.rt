@@ -1,5 +1,5 @@
-use super::samples::*;
-use super::*;
+use crate::samples::*;
+use mh_design::*;
 use mh_text::{Code, Memory, Refusal};
 use std::alloc::Global;
 use std::test::Fail;

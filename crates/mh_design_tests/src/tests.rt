@@ -1,5 +1,5 @@
-use super::samples::*;
-use super::*;
+use crate::samples::*;
+use mh_design::*;
 use mh_text::{Memory, Text};
 use sqlite_items::{Boxed, Items};
 use std::alloc::Global;
@@ -40,35 +40,35 @@ fn leaf(case: u32) -> (GExpr, bool) {
 
 /// Elements, bits and `~`, and whether they fit.
 fn operation(alloc: Global, case: u32) -> Result<(GExpr, bool), Memory> {
-    Ok(match case {
-        0 => (element(alloc, 1, GExpr::Signal(5))?, false),
-        1 => (table(alloc, 1, GExpr::Signal(5))?, false),
-        2 => (element(alloc, 0, GExpr::Signal(4))?, false),
-        3 => (unary(alloc, UnaryOp::Invert, GExpr::Signal(3))?, true),
-        4 => (unary(alloc, UnaryOp::Invert, GExpr::Signal(2))?, false),
-        5 => (unary(alloc, UnaryOp::Invert, GExpr::Signal(0))?, false),
-        6 => (bit(alloc, GExpr::Signal(2), GExpr::Signal(5))?, true),
-        _ => (bit(alloc, GExpr::Signal(0), GExpr::Signal(5))?, false),
-    })
+    match case {
+        0 => Ok((element(alloc, 1, GExpr::Signal(5))?, false)),
+        1 => Ok((table(alloc, 1, GExpr::Signal(5))?, false)),
+        2 => Ok((element(alloc, 0, GExpr::Signal(4))?, false)),
+        3 => Ok((unary(alloc, UnaryOp::Invert, GExpr::Signal(3))?, true)),
+        4 => Ok((unary(alloc, UnaryOp::Invert, GExpr::Signal(2))?, false)),
+        5 => Ok((unary(alloc, UnaryOp::Invert, GExpr::Signal(0))?, false)),
+        6 => Ok((bit(alloc, GExpr::Signal(2), GExpr::Signal(5))?, true)),
+        _ => Ok((bit(alloc, GExpr::Signal(0), GExpr::Signal(5))?, false)),
+    }
 }
 
 /// `concat`, `signed`, `int` and `bool`, and whether they fit.
 fn call(alloc: Global, case: u32) -> Result<(GExpr, bool), Memory> {
-    Ok(match case {
-        0 => (GExpr::Concat(Items::new(alloc)), false),
-        1 => (
+    match case {
+        0 => Ok((GExpr::Concat(Items::new(alloc)), false)),
+        1 => Ok((
             GExpr::Concat(pair(alloc, GExpr::Signal(0), GExpr::Signal(2))?),
             true,
-        ),
-        2 => (
+        )),
+        2 => Ok((
             GExpr::Concat(pair(alloc, GExpr::Signal(0), GExpr::Signal(5))?),
             false,
-        ),
-        3 => (GExpr::Signed(Boxed::new(alloc, GExpr::Signal(2))?), true),
-        4 => (GExpr::Signed(Boxed::new(alloc, GExpr::Signal(0))?), false),
-        5 => (GExpr::Int(Boxed::new(alloc, GExpr::Signal(4))?), false),
-        _ => (GExpr::Bool(Boxed::new(alloc, GExpr::Signal(4))?), false),
-    })
+        )),
+        3 => Ok((GExpr::Signed(Boxed::new(alloc, GExpr::Signal(2))?), true)),
+        4 => Ok((GExpr::Signed(Boxed::new(alloc, GExpr::Signal(0))?), false)),
+        5 => Ok((GExpr::Int(Boxed::new(alloc, GExpr::Signal(4))?), false)),
+        _ => Ok((GExpr::Bool(Boxed::new(alloc, GExpr::Signal(4))?), false)),
+    }
 }
 
 #[test]
@@ -91,30 +91,30 @@ fn state() -> GExpr {
 
 /// Comparisons and operators on items, and whether they fit.
 fn item_operator(alloc: Global, case: u32) -> Result<(GExpr, bool), Memory> {
-    Ok(match case {
-        0 => (
+    match case {
+        0 => Ok((
             binary(alloc, BinaryOp::Equal, state(), GExpr::Item(0, 2))?,
             true,
-        ),
-        1 => (
+        )),
+        1 => Ok((
             binary(alloc, BinaryOp::NotEqual, state(), GExpr::Item(1, 0))?,
             false,
-        ),
-        2 => (binary(alloc, BinaryOp::Equal, state(), one())?, false),
-        3 => (
+        )),
+        2 => Ok((binary(alloc, BinaryOp::Equal, state(), one())?, false)),
+        3 => Ok((
             binary(alloc, BinaryOp::Less, state(), GExpr::Item(0, 2))?,
             false,
-        ),
-        4 => (binary(alloc, BinaryOp::Add, one(), state())?, false),
-        5 => (
+        )),
+        4 => Ok((binary(alloc, BinaryOp::Add, one(), state())?, false)),
+        5 => Ok((
             binary(alloc, BinaryOp::BitAnd, state(), GExpr::Item(0, 2))?,
             false,
-        ),
-        _ => (
+        )),
+        _ => Ok((
             binary(alloc, BinaryOp::BitXor, GExpr::Signal(0), GExpr::Signal(5))?,
             true,
-        ),
-    })
+        )),
+    }
 }
 
 #[test]
@@ -133,32 +133,32 @@ fn q() -> GExpr {
 
 /// Constant indices and slices of numbers of 4 bits.
 fn constant_part(alloc: Global, case: u32) -> Result<(GExpr, bool), Memory> {
-    Ok(match case {
-        0 => (bit(alloc, q(), GExpr::Integer(3))?, true),
-        1 => (bit(alloc, q(), GExpr::Integer(4))?, false),
-        2 => (bit(alloc, q(), GExpr::Integer(-1))?, false),
-        3 => (slice(alloc, q(), 4, 0)?, true),
-        4 => (slice(alloc, q(), 5, 0)?, false),
-        5 => (slice(alloc, q(), 2, 2)?, false),
-        6 => (slice(alloc, q(), 1, -1)?, false),
-        7 => (slice(alloc, GExpr::Signal(2), 4, 3)?, true),
-        8 => (slice(alloc, GExpr::Signal(2), 5, 3)?, false),
-        _ => (slice(alloc, GExpr::Fixed(9, nibble()), 4, 1)?, true),
-    })
+    match case {
+        0 => Ok((bit(alloc, q(), GExpr::Integer(3))?, true)),
+        1 => Ok((bit(alloc, q(), GExpr::Integer(4))?, false)),
+        2 => Ok((bit(alloc, q(), GExpr::Integer(-1))?, false)),
+        3 => Ok((slice(alloc, q(), 4, 0)?, true)),
+        4 => Ok((slice(alloc, q(), 5, 0)?, false)),
+        5 => Ok((slice(alloc, q(), 2, 2)?, false)),
+        6 => Ok((slice(alloc, q(), 1, -1)?, false)),
+        7 => Ok((slice(alloc, GExpr::Signal(2), 4, 3)?, true)),
+        8 => Ok((slice(alloc, GExpr::Signal(2), 5, 3)?, false)),
+        _ => Ok((slice(alloc, GExpr::Fixed(9, nibble()), 4, 1)?, true)),
+    }
 }
 
 /// Constant indices of a memory of 2 and a table of 3 elements.
 fn constant_element(alloc: Global, case: u32) -> Result<(GExpr, bool), Memory> {
-    Ok(match case {
-        0 => (element(alloc, 0, GExpr::Integer(1))?, true),
-        1 => (element(alloc, 0, GExpr::Integer(2))?, false),
-        2 => (table(alloc, 0, GExpr::Truth(true))?, true),
-        3 => (table(alloc, 0, GExpr::Integer(3))?, false),
+    match case {
+        0 => Ok((element(alloc, 0, GExpr::Integer(1))?, true)),
+        1 => Ok((element(alloc, 0, GExpr::Integer(2))?, false)),
+        2 => Ok((table(alloc, 0, GExpr::Truth(true))?, true)),
+        3 => Ok((table(alloc, 0, GExpr::Integer(3))?, false)),
         _ => {
             let part = table(alloc, 0, GExpr::Integer(3))?;
-            (unary(alloc, UnaryOp::Minus, part)?, false)
+            Ok((unary(alloc, UnaryOp::Minus, part)?, false))
         }
-    })
+    }
 }
 
 #[test]
@@ -283,58 +283,58 @@ fn left_sides_are_tested(rt: HostRuntime) -> Result<(), Fail> {
 
 /// Loops and conditions, and whether they fit.
 fn looping(alloc: Global, case: u32) -> Result<(GStmt, bool), Memory> {
-    Ok(match case {
-        0 => (loop_by(2, 1, alloc), false),
-        1 => (loop_by(1, 0, alloc), false),
-        2 => (loop_by(1, -3, alloc), true),
-        3 => (count(state(), one(), Items::new(alloc)), false),
-        4 => (count(one(), state(), Items::new(alloc)), false),
-        5 => (
+    match case {
+        0 => Ok((loop_by(2, 1, alloc), false)),
+        1 => Ok((loop_by(1, 0, alloc), false)),
+        2 => Ok((loop_by(1, -3, alloc), true)),
+        3 => Ok((count(state(), one(), Items::new(alloc)), false)),
+        4 => Ok((count(one(), state(), Items::new(alloc)), false)),
+        5 => Ok((
             choose(alloc, state(), Items::new(alloc), Items::new(alloc))?,
             false,
-        ),
-        _ => (
+        )),
+        _ => Ok((
             GStmt::Assert {
                 line: 7,
                 test: state(),
             },
             false,
-        ),
-    })
+        )),
+    }
 }
 
 /// `break` and `continue`, and whether they fit.
 fn exit(alloc: Global, case: u32) -> Result<(GStmt, bool), Memory> {
-    Ok(match case {
-        0 => (GStmt::Break { line: 7 }, false),
-        1 => (GStmt::Continue { line: 7 }, false),
+    match case {
+        0 => Ok((GStmt::Break { line: 7 }, false)),
+        1 => Ok((GStmt::Continue { line: 7 }, false)),
         2 => {
             let leaves = list(alloc, GStmt::Break { line: 8 })?;
-            (count(one(), one(), leaves), true)
+            Ok((count(one(), one(), leaves), true))
         }
         _ => {
             let again = list(alloc, GStmt::Continue { line: 8 })?;
-            (choose(alloc, one(), again, Items::new(alloc))?, false)
+            Ok((choose(alloc, one(), again, Items::new(alloc))?, false))
         }
-    })
+    }
 }
 
 /// `print` and `yield`, and whether they fit.
 fn effect(alloc: Global, case: u32) -> Result<(GStmt, bool), Memory> {
-    Ok(match case {
-        0 => (
+    match case {
+        0 => Ok((
             print(alloc, PrintPart::Text(Text::new(alloc, b"x y")?))?,
             true,
-        ),
-        1 => (print(alloc, PrintPart::Number(GExpr::Signal(5)))?, true),
-        2 => (print(alloc, PrintPart::Number(GExpr::Signal(3)))?, false),
-        3 => (print(alloc, PrintPart::Number(GExpr::Truth(true)))?, false),
-        4 => (waiting(list(alloc, Wait::Edge(3, true))?), false),
-        _ => (
+        )),
+        1 => Ok((print(alloc, PrintPart::Number(GExpr::Signal(5)))?, true)),
+        2 => Ok((print(alloc, PrintPart::Number(GExpr::Signal(3)))?, false)),
+        3 => Ok((print(alloc, PrintPart::Number(GExpr::Truth(true)))?, false)),
+        4 => Ok((waiting(list(alloc, Wait::Edge(3, true))?), false)),
+        _ => Ok((
             waiting(pair(alloc, Wait::Edge(0, false), Wait::Delay(2147483647))?),
             true,
-        ),
-    })
+        )),
+    }
 }
 
 fn loop_by(variable: u32, step: i128, alloc: Global) -> GStmt {

@@ -1,5 +1,5 @@
 // Designs and bodies for the tests, built by cases: case 0 has nothing wrong.
-use crate::{
+use mh_design::{
     BinaryOp, Binding, Branch, Design, Encoding, EnumDecl, GExpr, GStmt, GenKind, Generator, Kind,
     Local, MemDecl, Place, ResetDecl, SignalDecl, TableDecl, Target, UnaryOp, Wait,
 };
@@ -8,7 +8,7 @@ use mh_text::{Memory, Text};
 use sqlite_items::{Boxed, Items};
 use std::alloc::Global;
 
-pub fn nibble() -> Bounds {
+pub(crate) fn nibble() -> Bounds {
     Bounds {
         lo: 0,
         top: 15,
@@ -16,7 +16,7 @@ pub fn nibble() -> Bounds {
     }
 }
 
-pub fn signed() -> Bounds {
+pub(crate) fn signed() -> Bounds {
     Bounds {
         lo: -8,
         top: 7,
@@ -24,58 +24,58 @@ pub fn signed() -> Bounds {
     }
 }
 
-pub fn list<T: Drop>(alloc: Global, a: T) -> Result<Items<T>, Memory> {
+pub(crate) fn list<T: Drop>(alloc: Global, a: T) -> Result<Items<T>, Memory> {
     let mut all = Items::new(alloc);
     all.push(a)?;
     Ok(all)
 }
 
-pub fn pair<T: Drop>(alloc: Global, a: T, b: T) -> Result<Items<T>, Memory> {
+pub(crate) fn pair<T: Drop>(alloc: Global, a: T, b: T) -> Result<Items<T>, Memory> {
     let mut all = Items::new(alloc);
     all.push(a)?;
     all.push(b)?;
     Ok(all)
 }
 
-pub fn triple<T: Drop>(alloc: Global, a: T, b: T, c: T) -> Result<Items<T>, Memory> {
+pub(crate) fn triple<T: Drop>(alloc: Global, a: T, b: T, c: T) -> Result<Items<T>, Memory> {
     let mut all = pair(alloc, a, b)?;
     all.push(c)?;
     Ok(all)
 }
 
-pub fn unary(alloc: Global, op: UnaryOp, a: GExpr) -> Result<GExpr, Memory> {
+pub(crate) fn unary(alloc: Global, op: UnaryOp, a: GExpr) -> Result<GExpr, Memory> {
     Ok(GExpr::Unary(op, Boxed::new(alloc, a)?))
 }
 
-pub fn binary(alloc: Global, op: BinaryOp, a: GExpr, b: GExpr) -> Result<GExpr, Memory> {
+pub(crate) fn binary(alloc: Global, op: BinaryOp, a: GExpr, b: GExpr) -> Result<GExpr, Memory> {
     let first = Boxed::new(alloc, a)?;
     let second = Boxed::new(alloc, b)?;
     Ok(GExpr::Binary(op, first, second))
 }
 
-pub fn bit(alloc: Global, a: GExpr, i: GExpr) -> Result<GExpr, Memory> {
+pub(crate) fn bit(alloc: Global, a: GExpr, i: GExpr) -> Result<GExpr, Memory> {
     let base = Boxed::new(alloc, a)?;
     let index = Boxed::new(alloc, i)?;
     Ok(GExpr::Bit(base, index))
 }
 
-pub fn slice(alloc: Global, a: GExpr, i: i128, j: i128) -> Result<GExpr, Memory> {
+pub(crate) fn slice(alloc: Global, a: GExpr, i: i128, j: i128) -> Result<GExpr, Memory> {
     let base = Boxed::new(alloc, a)?;
     let upper = Boxed::new(alloc, GExpr::Integer(i))?;
     let lower = Boxed::new(alloc, GExpr::Integer(j))?;
     Ok(GExpr::Slice(base, upper, lower))
 }
 
-pub fn element(alloc: Global, mem: u32, i: GExpr) -> Result<GExpr, Memory> {
+pub(crate) fn element(alloc: Global, mem: u32, i: GExpr) -> Result<GExpr, Memory> {
     Ok(GExpr::Element(mem, Boxed::new(alloc, i)?))
 }
 
-pub fn table(alloc: Global, table: u32, i: GExpr) -> Result<GExpr, Memory> {
+pub(crate) fn table(alloc: Global, table: u32, i: GExpr) -> Result<GExpr, Memory> {
     Ok(GExpr::TableElement(table, Boxed::new(alloc, i)?))
 }
 
 /// `signal.next = value`
-pub fn drive(signal: u32, value: GExpr) -> GStmt {
+pub(crate) fn drive(signal: u32, value: GExpr) -> GStmt {
     GStmt::Set {
         line: 7,
         target: Target::Whole(Place::Signal(signal)),
@@ -84,7 +84,7 @@ pub fn drive(signal: u32, value: GExpr) -> GStmt {
 }
 
 /// `local = value`
-pub fn make(local: u32, value: GExpr) -> GStmt {
+pub(crate) fn make(local: u32, value: GExpr) -> GStmt {
     GStmt::Set {
         line: 7,
         target: Target::Bind(local, Binding::Plain),
@@ -93,7 +93,7 @@ pub fn make(local: u32, value: GExpr) -> GStmt {
 }
 
 /// `local = intbv(0)[4:]`
-pub fn make_bits(local: u32) -> GStmt {
+pub(crate) fn make_bits(local: u32) -> GStmt {
     GStmt::Set {
         line: 7,
         target: Target::Bind(local, Binding::LowBits(4, false)),
@@ -102,7 +102,7 @@ pub fn make_bits(local: u32) -> GStmt {
 }
 
 /// `if test: yes`, and `else: no`
-pub fn choose(
+pub(crate) fn choose(
     alloc: Global,
     test: GExpr,
     yes: Items<GStmt>,
@@ -117,7 +117,7 @@ pub fn choose(
 }
 
 /// `for local 1 in range(from, to, 1)`
-pub fn count(from: GExpr, to: GExpr, body: Items<GStmt>) -> GStmt {
+pub(crate) fn count(from: GExpr, to: GExpr, body: Items<GStmt>) -> GStmt {
     GStmt::For {
         line: 7,
         variable: 1,
@@ -129,7 +129,7 @@ pub fn count(from: GExpr, to: GExpr, body: Items<GStmt>) -> GStmt {
     }
 }
 
-pub fn signal(
+pub(crate) fn signal(
     alloc: Global,
     path: &[u8],
     kind: Kind,
@@ -231,7 +231,7 @@ fn enums(alloc: Global, case: u32) -> Result<Items<EnumDecl>, Memory> {
     pair(alloc, hot, binary)
 }
 
-pub fn locals(alloc: Global, case: u32) -> Result<Items<Local>, Memory> {
+pub(crate) fn locals(alloc: Global, case: u32) -> Result<Items<Local>, Memory> {
     let name = Text::new(alloc, pick(case == 19, b"v".as_slice(), b"v!"))?;
     let kind = Kind::Bits(nibble());
     let mut all = list(alloc, Local { name, kind })?;
@@ -253,22 +253,22 @@ pub fn locals(alloc: Global, case: u32) -> Result<Items<Local>, Memory> {
 
 /// How the generator of a case begins.
 fn start(alloc: Global, case: u32) -> Result<GenKind, Memory> {
-    Ok(match case {
-        21 => GenKind::Always(list(alloc, Wait::Change(99))?),
-        22 => GenKind::Always(list(alloc, Wait::Edge(3, true))?),
-        23 => GenKind::Always(list(alloc, Wait::Delay(0))?),
-        24 => GenKind::Always(list(alloc, Wait::Delay(2147483648))?),
-        25 => GenKind::Seq(Wait::Change(0), Some(1)),
-        26 => GenKind::Seq(Wait::Edge(0, true), Some(1)),
-        27 => GenKind::Seq(Wait::Edge(0, true), Some(99)),
-        28 => GenKind::Seq(Wait::Edge(0, true), Some(0)),
-        29 => GenKind::Seq(Wait::Edge(3, true), None),
-        _ => GenKind::Seq(Wait::Edge(0, true), Some(1)),
-    })
+    match case {
+        21 => Ok(GenKind::Always(list(alloc, Wait::Change(99))?)),
+        22 => Ok(GenKind::Always(list(alloc, Wait::Edge(3, true))?)),
+        23 => Ok(GenKind::Always(list(alloc, Wait::Delay(0))?)),
+        24 => Ok(GenKind::Always(list(alloc, Wait::Delay(2147483648))?)),
+        25 => Ok(GenKind::Seq(Wait::Change(0), Some(1))),
+        26 => Ok(GenKind::Seq(Wait::Edge(0, true), Some(1))),
+        27 => Ok(GenKind::Seq(Wait::Edge(0, true), Some(99))),
+        28 => Ok(GenKind::Seq(Wait::Edge(0, true), Some(0))),
+        29 => Ok(GenKind::Seq(Wait::Edge(3, true), None)),
+        _ => Ok(GenKind::Seq(Wait::Edge(0, true), Some(1))),
+    }
 }
 
 /// A design with this one generator.
-pub fn design(
+pub(crate) fn design(
     alloc: Global,
     case: u32,
     kind: GenKind,
@@ -298,10 +298,10 @@ pub fn design(
 }
 
 /// A design whose declarations have one thing wrong, or nothing in case 0.
-pub fn declared(alloc: Global, case: u32) -> Result<Design, Memory> {
+pub(crate) fn declared(alloc: Global, case: u32) -> Result<Design, Memory> {
     let body = list(alloc, drive(3, GExpr::Integer(1)))?;
     design(alloc, case, start(alloc, case)?, body)
 }
 
 /// The number of the last case of `declared`.
-pub const LAST_DECLARED: u32 = 29;
+pub(crate) const LAST_DECLARED: u32 = 29;

@@ -1,6 +1,6 @@
 // Constants as Python 3 and MyHDL 0.11 give them, and what this project refuses.
-use super::*;
 use crate::samples::{name, read, scope};
+use mh_consts::*;
 use mh_num::Bounds;
 use mh_text::{Code, Memory, Refusal};
 use sqlite_items::Items;
