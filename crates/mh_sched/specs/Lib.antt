@@ -1,0 +1,12 @@
+pub mod Faults
+pub mod Lines
+pub mod Runs
+pub mod Inputs
+pub mod Calls
+pub mod Events
+pub mod Standing
+pub mod Outcomes
+pub mod Notes
+pub mod Kept
+pub mod At
+pub mod Unsaid

@@ -1,0 +1,7 @@
+//! Tests of the run of a design, and the designs that they run.
+#![tactic(auto)]
+
+#[cfg(test)]
+mod samples;
+#[cfg(test)]
+mod tests;
