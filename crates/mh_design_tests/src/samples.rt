@@ -129,24 +129,27 @@ pub(crate) fn count(from: GExpr, to: GExpr, body: Items<GStmt>) -> GStmt {
     }
 }
 
-pub(crate) fn signal(
+pub(crate) fn add_signal(
     alloc: Global,
+    all: &mut Items<SignalDecl>,
     path: &[u8],
     kind: Kind,
     init: i128,
     reset: bool,
-) -> Result<SignalDecl, Memory> {
+) -> Result<(), Memory> {
+    let path = Text::new(alloc, path)?;
     let declared = ResetDecl {
         active: false,
         asynchronous: true,
     };
-    Ok(SignalDecl {
-        path: Text::new(alloc, path)?,
+    all.push(SignalDecl {
+        path,
         kind,
         init,
         reset: if reset { Some(declared) } else { None },
         line: 3,
-    })
+    })?;
+    Ok(())
 }
 
 /// The one of two that a case wants.
@@ -154,100 +157,129 @@ fn pick<T: Drop>(wrong: bool, good: T, bad: T) -> T {
     if wrong { bad } else { good }
 }
 
-fn signals(alloc: Global, case: u32) -> Result<Items<SignalDecl>, Memory> {
-    let bits = Kind::Bits(nibble());
-    let name = pick(case == 4, b"clk".as_slice(), b"c.k");
-    let mut all = list(
-        alloc,
-        signal(alloc, name, Kind::Bool, pick(case == 6, 0, 2), false)?,
-    )?;
-    all.push(signal(alloc, b"rst", Kind::Bool, 1, case != 26)?)?;
-    all.push(signal(alloc, b"a", Kind::Bits(signed()), -8, false)?)?;
-    all.push(signal(alloc, b"q", bits, pick(case == 7, 15, 16), case == 9)?)?;
+fn add_inputs(alloc: Global, all: &mut Items<SignalDecl>, case: u32) -> Result<(), Memory> {
+    let clock = pick(case == 4, b"clk".as_slice(), b"c.k");
+    let low = pick(case == 6, 0, 2);
+    add_signal(alloc, all, clock, Kind::Bool, low, false)?;
+    add_signal(alloc, all, b"rst", Kind::Bool, 1, case != 26)?;
+    add_signal(alloc, all, b"a", Kind::Bits(signed()), -8, false)
+}
+
+fn add_states(alloc: Global, all: &mut Items<SignalDecl>, case: u32) -> Result<(), Memory> {
+    let high = pick(case == 7, 15, 16);
+    add_signal(alloc, all, b"q", Kind::Bits(nibble()), high, case == 9)?;
+    let kind = Kind::Item(pick(case == 5, 0, 9));
     let state = pick(case == 8, 4, 3);
-    all.push(signal(
-        alloc,
-        b"state",
-        Kind::Item(pick(case == 5, 0, 9)),
-        state,
-        false,
-    )?)?;
-    all.push(signal(alloc, b"n", Kind::Int, -300, false)?)?;
-    all.push(signal(alloc, b"m_0", bits, 0, false)?)?;
+    add_signal(alloc, all, b"state", kind, state, false)?;
+    add_signal(alloc, all, b"n", Kind::Int, -300, false)
+}
+
+fn add_elements(alloc: Global, all: &mut Items<SignalDecl>, case: u32) -> Result<(), Memory> {
+    let bits = Kind::Bits(nibble());
     let second = pick(case == 14, bits, Kind::Item(1));
-    all.push(signal(alloc, b"m_1", second, 0, false)?)?;
-    all.push(signal(alloc, b"other", Kind::Item(1), 1, false)?)?;
-    Ok(all)
+    add_signal(alloc, all, b"m_0", bits, 0, false)?;
+    add_signal(alloc, all, b"m_1", second, 0, false)?;
+    add_signal(alloc, all, b"other", Kind::Item(1), 1, false)
 }
 
-fn mems(alloc: Global, case: u32) -> Result<Items<MemDecl>, Memory> {
+fn add_signals(alloc: Global, all: &mut Items<SignalDecl>, case: u32) -> Result<(), Memory> {
+    add_inputs(alloc, all, case)?;
+    add_states(alloc, all, case)?;
+    add_elements(alloc, all, case)
+}
+
+/// The elements of the memory.
+fn cells(alloc: Global, case: u32) -> Result<Items<u32>, Memory> {
+    if case == 11 {
+        Ok(Items::new(alloc))
+    } else {
+        pair(alloc, 6, pick(case == 12, 7, 99))
+    }
+}
+
+fn mem(alloc: Global, case: u32) -> Result<MemDecl, Memory> {
     let path = Text::new(alloc, pick(case == 10, b"m".as_slice(), b"m-"))?;
-    let cells = if case == 11 {
-        Items::new(alloc)
-    } else {
-        pair(alloc, 6, pick(case == 12, 7, 99))?
-    };
+    let cells = cells(alloc, case)?;
     let kind = pick(case == 13, Kind::Bits(nibble()), Kind::Bits(signed()));
-    list(
-        alloc,
-        MemDecl {
-            list: 5,
-            path,
-            kind,
-            cells,
-            line: 4,
-        },
-    )
+    Ok(MemDecl {
+        list: 5,
+        path,
+        kind,
+        cells,
+        line: 4,
+    })
 }
 
-fn tables(alloc: Global, case: u32) -> Result<Items<TableDecl>, Memory> {
-    let path = Text::new(alloc, pick(case == 16, b"t".as_slice(), b"t "))?;
-    let values = if case == 15 {
-        Items::new(alloc)
+fn add_mem(alloc: Global, all: &mut Items<MemDecl>, case: u32) -> Result<(), Memory> {
+    let mem = mem(alloc, case)?;
+    all.push(mem)?;
+    Ok(())
+}
+
+/// The values of the table.
+fn values(alloc: Global, case: u32) -> Result<Items<i128>, Memory> {
+    if case == 15 {
+        Ok(Items::new(alloc))
     } else {
-        triple(alloc, 5, -6, 7)?
-    };
-    list(alloc, TableDecl { path, values })
+        triple(alloc, 5, -6, 7)
+    }
+}
+
+fn add_table(alloc: Global, all: &mut Items<TableDecl>, case: u32) -> Result<(), Memory> {
+    let path = Text::new(alloc, pick(case == 16, b"t".as_slice(), b"t "))?;
+    let values = values(alloc, case)?;
+    all.push(TableDecl { path, values })?;
+    Ok(())
+}
+
+fn add_item(alloc: Global, all: &mut Items<Text>) -> Result<(), Memory> {
+    let name = Text::new(alloc, b"A.")?;
+    all.push(name)?;
+    Ok(())
 }
 
 /// Items named by letters, which need not differ for these tests.
 fn items(alloc: Global, count: u32) -> Result<Items<Text>, Memory> {
     let mut all = Items::new(alloc);
     for _ in 0..count {
-        all.push(Text::new(alloc, b"A.")?)?;
+        add_item(alloc, &mut all)?;
     }
     Ok(all)
 }
 
-fn enums(alloc: Global, case: u32) -> Result<Items<EnumDecl>, Memory> {
-    let hot = EnumDecl {
-        names: items(alloc, pick(case == 17, 3, 128))?,
-        encoding: Encoding::OneHot,
-    };
-    let binary = EnumDecl {
-        names: items(alloc, 2)?,
-        encoding: Encoding::Binary,
-    };
-    pair(alloc, hot, binary)
+fn add_enum(
+    alloc: Global,
+    all: &mut Items<EnumDecl>,
+    count: u32,
+    encoding: Encoding,
+) -> Result<(), Memory> {
+    let names = items(alloc, count)?;
+    all.push(EnumDecl { names, encoding })?;
+    Ok(())
+}
+
+fn add_enums(alloc: Global, all: &mut Items<EnumDecl>, case: u32) -> Result<(), Memory> {
+    add_enum(alloc, all, pick(case == 17, 3, 128), Encoding::OneHot)?;
+    add_enum(alloc, all, 2, Encoding::Binary)
+}
+
+fn add_local(alloc: Global, all: &mut Items<Local>, name: &[u8], kind: Kind) -> Result<(), Memory> {
+    let name = Text::new(alloc, name)?;
+    all.push(Local { name, kind })?;
+    Ok(())
+}
+
+fn add_locals(alloc: Global, all: &mut Items<Local>, case: u32) -> Result<(), Memory> {
+    let first = pick(case == 19, b"v".as_slice(), b"v!");
+    add_local(alloc, all, first, Kind::Bits(nibble()))?;
+    add_local(alloc, all, b"i", Kind::Int)?;
+    add_local(alloc, all, b"f", Kind::Bool)?;
+    add_local(alloc, all, b"s", Kind::Item(pick(case == 20, 0, 9)))
 }
 
 pub(crate) fn locals(alloc: Global, case: u32) -> Result<Items<Local>, Memory> {
-    let name = Text::new(alloc, pick(case == 19, b"v".as_slice(), b"v!"))?;
-    let kind = Kind::Bits(nibble());
-    let mut all = list(alloc, Local { name, kind })?;
-    let name = Text::new(alloc, b"i")?;
-    all.push(Local {
-        name,
-        kind: Kind::Int,
-    })?;
-    let name = Text::new(alloc, b"f")?;
-    all.push(Local {
-        name,
-        kind: Kind::Bool,
-    })?;
-    let name = Text::new(alloc, b"s")?;
-    let kind = Kind::Item(pick(case == 20, 0, 9));
-    all.push(Local { name, kind })?;
+    let mut all = Items::new(alloc);
+    add_locals(alloc, &mut all, case)?;
     Ok(all)
 }
 
@@ -267,6 +299,66 @@ fn start(alloc: Global, case: u32) -> Result<GenKind, Memory> {
     }
 }
 
+fn generator(
+    alloc: Global,
+    case: u32,
+    kind: GenKind,
+    body: Items<GStmt>,
+) -> Result<Generator, Memory> {
+    let path = Text::new(alloc, pick(case == 18, b"g".as_slice(), b"g\n"))?;
+    let locals = locals(alloc, case)?;
+    Ok(Generator {
+        path,
+        line: 6,
+        kind,
+        locals,
+        body,
+    })
+}
+
+fn empty(alloc: Global, case: u32) -> Result<Design, Memory> {
+    let name = Text::new(alloc, pick(case == 1, b"top_1".as_slice(), b"top 1"))?;
+    Ok(Design {
+        name,
+        ports: Items::new(alloc),
+        signals: Items::new(alloc),
+        mems: Items::new(alloc),
+        tables: Items::new(alloc),
+        enums: Items::new(alloc),
+        generators: Items::new(alloc),
+        listed: Items::new(alloc),
+        line: 2,
+    })
+}
+
+fn add_ports(all: &mut Items<u32>, case: u32) -> Result<(), Memory> {
+    all.push(0)?;
+    all.push(pick(case == 3, 8, 9))?;
+    Ok(())
+}
+
+fn add_listed(alloc: Global, all: &mut Items<Text>, case: u32) -> Result<(), Memory> {
+    let name = Text::new(alloc, pick(case == 2, b"Z9".as_slice(), b"Z:"))?;
+    all.push(name)?;
+    Ok(())
+}
+
+fn add_declarations(alloc: Global, d: &mut Design, case: u32) -> Result<(), Memory> {
+    add_ports(&mut d.ports, case)?;
+    add_signals(alloc, &mut d.signals, case)?;
+    add_mem(alloc, &mut d.mems, case)?;
+    add_table(alloc, &mut d.tables, case)?;
+    add_enums(alloc, &mut d.enums, case)?;
+    add_listed(alloc, &mut d.listed, case)
+}
+
+/// The declarations of a design, without a generator.
+fn bare(alloc: Global, case: u32) -> Result<Design, Memory> {
+    let mut d = empty(alloc, case)?;
+    add_declarations(alloc, &mut d, case)?;
+    Ok(d)
+}
+
 /// A design with this one generator.
 pub(crate) fn design(
     alloc: Global,
@@ -274,27 +366,10 @@ pub(crate) fn design(
     kind: GenKind,
     body: Items<GStmt>,
 ) -> Result<Design, Memory> {
-    let generator = Generator {
-        path: Text::new(alloc, pick(case == 18, b"g".as_slice(), b"g\n"))?,
-        line: 6,
-        kind,
-        locals: locals(alloc, case)?,
-        body,
-    };
-    Ok(Design {
-        name: Text::new(alloc, pick(case == 1, b"top_1".as_slice(), b"top 1"))?,
-        ports: pair(alloc, 0, pick(case == 3, 8, 9))?,
-        signals: signals(alloc, case)?,
-        mems: mems(alloc, case)?,
-        tables: tables(alloc, case)?,
-        enums: enums(alloc, case)?,
-        generators: list(alloc, generator)?,
-        listed: list(
-            alloc,
-            Text::new(alloc, pick(case == 2, b"Z9".as_slice(), b"Z:"))?,
-        )?,
-        line: 2,
-    })
+    let generator = generator(alloc, case, kind, body)?;
+    let mut d = bare(alloc, case)?;
+    d.generators.push(generator)?;
+    Ok(d)
 }
 
 /// A design whose declarations have one thing wrong, or nothing in case 0.

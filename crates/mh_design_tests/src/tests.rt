@@ -14,14 +14,21 @@ fn each_rule_of_declarations_is_tested(rt: HostRuntime) -> Result<(), Fail> {
     Ok(())
 }
 
-/// An `@instance` with one statement.
-fn with(alloc: Global, s: GStmt) -> Result<Design, Memory> {
-    design(alloc, 0, GenKind::Instance, list(alloc, s)?)
+/// What `well_formed` says of a design whose generator has this kind and body.
+fn is_formed(alloc: Global, kind: GenKind, body: Items<GStmt>) -> Result<bool, Memory> {
+    let d = design(alloc, 0, kind, body)?;
+    Ok(well_formed(&d))
+}
+
+/// What `well_formed` says of an `@instance` with one statement.
+fn stands(alloc: Global, s: GStmt) -> Result<bool, Memory> {
+    let body = list(alloc, s)?;
+    is_formed(alloc, GenKind::Instance, body)
 }
 
 /// What `well_formed` says of an `@instance` that assigns this to a signal of bounded numbers.
 fn takes(alloc: Global, value: GExpr) -> Result<bool, Memory> {
-    Ok(well_formed(&with(alloc, drive(3, value))?))
+    stands(alloc, drive(3, value))
 }
 
 /// Leaves, and whether they fit.
@@ -71,15 +78,27 @@ fn call(alloc: Global, case: u32) -> Result<(GExpr, bool), Memory> {
     }
 }
 
+fn leaf_is_told(alloc: Global, case: u32) -> Result<bool, Memory> {
+    let (e, fits) = leaf(case);
+    Ok(takes(alloc, e)? == fits)
+}
+
+fn operation_is_told(alloc: Global, case: u32) -> Result<bool, Memory> {
+    let (e, fits) = operation(alloc, case)?;
+    Ok(takes(alloc, e)? == fits)
+}
+
+fn call_is_told(alloc: Global, case: u32) -> Result<bool, Memory> {
+    let (e, fits) = call(alloc, case)?;
+    Ok(takes(alloc, e)? == fits)
+}
+
 #[test]
 fn kinds_of_expressions_are_tested(rt: HostRuntime) -> Result<(), Fail> {
     for case in 0..8 {
-        let (e, fits) = leaf(case);
-        assert_eq!(rt; takes(rt.alloc(), e)?, fits, "leaf {case}");
-        let (e, fits) = operation(rt.alloc(), case)?;
-        assert_eq!(rt; takes(rt.alloc(), e)?, fits, "operation {case}");
-        let (e, fits) = call(rt.alloc(), case)?;
-        assert_eq!(rt; takes(rt.alloc(), e)?, fits, "call {case}");
+        assert!(rt; leaf_is_told(rt.alloc(), case)?, "leaf {case}");
+        assert!(rt; operation_is_told(rt.alloc(), case)?, "operation {case}");
+        assert!(rt; call_is_told(rt.alloc(), case)?, "call {case}");
     }
     Ok(())
 }
@@ -263,20 +282,36 @@ fn allows(alloc: Global, target: Target, value: GExpr) -> Result<bool, Memory> {
         target,
         value,
     };
-    Ok(well_formed(&with(alloc, s)?))
+    stands(alloc, s)
+}
+
+fn whole_is_told(alloc: Global, case: u32) -> Result<bool, Memory> {
+    let (target, value, fits) = whole(case);
+    Ok(allows(alloc, target, value)? == fits)
+}
+
+fn part_is_told(alloc: Global, case: u32) -> Result<bool, Memory> {
+    let (target, value, fits) = part(case);
+    Ok(allows(alloc, target, value)? == fits)
+}
+
+fn bound_is_told(alloc: Global, case: u32) -> Result<bool, Memory> {
+    let (target, value, fits) = bound(case);
+    Ok(allows(alloc, target, value)? == fits)
+}
+
+fn bounded_is_told(alloc: Global, case: u32) -> Result<bool, Memory> {
+    let (target, value, fits) = bounded(case);
+    Ok(allows(alloc, target, value)? == fits)
 }
 
 #[test]
 fn left_sides_are_tested(rt: HostRuntime) -> Result<(), Fail> {
     for case in 0..6 {
-        let (target, value, fits) = whole(case);
-        assert_eq!(rt; allows(rt.alloc(), target, value)?, fits, "whole {case}");
-        let (target, value, fits) = part(case);
-        assert_eq!(rt; allows(rt.alloc(), target, value)?, fits, "part {case}");
-        let (target, value, fits) = bound(case);
-        assert_eq!(rt; allows(rt.alloc(), target, value)?, fits, "bound {case}");
-        let (target, value, fits) = bounded(case);
-        assert_eq!(rt; allows(rt.alloc(), target, value)?, fits, "bounded {case}");
+        assert!(rt; whole_is_told(rt.alloc(), case)?, "whole {case}");
+        assert!(rt; part_is_told(rt.alloc(), case)?, "part {case}");
+        assert!(rt; bound_is_told(rt.alloc(), case)?, "bound {case}");
+        assert!(rt; bounded_is_told(rt.alloc(), case)?, "bounded {case}");
     }
     Ok(())
 }
@@ -358,22 +393,36 @@ fn waiting(waits: Items<Wait>) -> GStmt {
     GStmt::Yield { line: 7, waits }
 }
 
+fn looping_is_told(alloc: Global, case: u32) -> Result<bool, Memory> {
+    let (s, fits) = looping(alloc, case)?;
+    Ok(stands(alloc, s)? == fits)
+}
+
+fn exit_is_told(alloc: Global, case: u32) -> Result<bool, Memory> {
+    let (s, fits) = exit(alloc, case)?;
+    Ok(stands(alloc, s)? == fits)
+}
+
+fn effect_is_told(alloc: Global, case: u32) -> Result<bool, Memory> {
+    let (s, fits) = effect(alloc, case)?;
+    Ok(stands(alloc, s)? == fits)
+}
+
+/// What `well_formed` says of an `@always_comb` that waits.
+fn comb_waits(alloc: Global) -> Result<bool, Memory> {
+    let wait = waiting(list(alloc, Wait::Delay(1))?);
+    let body = list(alloc, wait)?;
+    is_formed(alloc, GenKind::Comb, body)
+}
+
 #[test]
 fn statements_are_tested(rt: HostRuntime) -> Result<(), Fail> {
     for case in 0..7 {
-        let (s, fits) = looping(rt.alloc(), case)?;
-        let d = with(rt.alloc(), s)?;
-        assert_eq!(rt; well_formed(&d), fits, "loop {case}");
-        let (s, fits) = exit(rt.alloc(), case)?;
-        let d = with(rt.alloc(), s)?;
-        assert_eq!(rt; well_formed(&d), fits, "exit {case}");
-        let (s, fits) = effect(rt.alloc(), case)?;
-        let d = with(rt.alloc(), s)?;
-        assert_eq!(rt; well_formed(&d), fits, "effect {case}");
+        assert!(rt; looping_is_told(rt.alloc(), case)?, "loop {case}");
+        assert!(rt; exit_is_told(rt.alloc(), case)?, "exit {case}");
+        assert!(rt; effect_is_told(rt.alloc(), case)?, "effect {case}");
     }
-    let wait = waiting(list(rt.alloc(), Wait::Delay(1))?);
-    let d = design(rt.alloc(), 0, GenKind::Comb, list(rt.alloc(), wait)?)?;
-    assert!(rt; !well_formed(&d), "yield in a function");
+    assert!(rt; !comb_waits(rt.alloc())?, "yield in a function");
     Ok(())
 }
 
@@ -485,18 +534,30 @@ fn part_of(target: Target) -> GStmt {
 /// What `well_formed` says of a function that reads a local after this statement.
 fn reads_after(alloc: Global, s: GStmt, read: u32) -> Result<bool, Memory> {
     let body = pair(alloc, s, drive(3, GExpr::Local(read)))?;
-    Ok(well_formed(&design(alloc, 0, GenKind::Comb, body)?))
+    is_formed(alloc, GenKind::Comb, body)
+}
+
+fn branching_is_told(alloc: Global, case: u32) -> Result<bool, Memory> {
+    let (s, fits) = branching(alloc, case)?;
+    Ok(reads_after(alloc, s, 2)? == fits)
+}
+
+fn repeating_is_told(alloc: Global, case: u32) -> Result<bool, Memory> {
+    let (s, fits) = repeating(alloc, case)?;
+    Ok(reads_after(alloc, s, 2)? == fits)
+}
+
+fn counting_is_told(alloc: Global, case: u32) -> Result<bool, Memory> {
+    let (s, read, fits) = counting(alloc, case);
+    Ok(reads_after(alloc, s, read)? == fits)
 }
 
 #[test]
 fn paths_of_locals_are_tested(rt: HostRuntime) -> Result<(), Fail> {
     for case in 0..7 {
-        let (s, fits) = branching(rt.alloc(), case)?;
-        assert_eq!(rt; reads_after(rt.alloc(), s, 2)?, fits, "branching {case}");
-        let (s, fits) = repeating(rt.alloc(), case)?;
-        assert_eq!(rt; reads_after(rt.alloc(), s, 2)?, fits, "repeating {case}");
-        let (s, read, fits) = counting(rt.alloc(), case);
-        assert_eq!(rt; reads_after(rt.alloc(), s, read)?, fits, "counting {case}");
+        assert!(rt; branching_is_told(rt.alloc(), case)?, "branching {case}");
+        assert!(rt; repeating_is_told(rt.alloc(), case)?, "repeating {case}");
+        assert!(rt; counting_is_told(rt.alloc(), case)?, "counting {case}");
     }
     Ok(())
 }
@@ -510,60 +571,77 @@ fn deep(alloc: Global, levels: u32) -> Result<GExpr, Memory> {
     Ok(e)
 }
 
+/// Whether a design fits whose one expression has this many levels.
+fn fits_deep(alloc: Global, levels: u32) -> Result<bool, Memory> {
+    let value = deep(alloc, levels)?;
+    takes(alloc, value)
+}
+
 #[test]
 fn depth_is_tested(rt: HostRuntime) -> Result<(), Fail> {
-    let d = with(rt.alloc(), drive(3, deep(rt.alloc(), 199)?))?;
-    assert!(rt; well_formed(&d));
+    assert!(rt; fits_deep(rt.alloc(), 199)?);
     for levels in [200, 201, 300] {
-        let d = with(rt.alloc(), drive(3, deep(rt.alloc(), levels)?))?;
-        assert!(rt; !well_formed(&d), "{levels} levels");
+        assert!(rt; !fits_deep(rt.alloc(), levels)?, "{levels} levels");
     }
     Ok(())
 }
 
-#[test]
-fn sizes_are_tested(rt: HostRuntime) -> Result<(), Fail> {
-    let mut d = declared(rt.alloc(), 0)?;
-    for _ in 0..4089 {
-        d.signals
-            .push(signal(rt.alloc(), b"s", Kind::Bool, 0, false)?)?;
+fn add_signals(alloc: Global, d: &mut Design, count: u32) -> Result<(), Memory> {
+    for _ in 0..count {
+        add_signal(alloc, &mut d.signals, b"s", Kind::Bool, 0, false)?;
     }
-    let mut values = Items::new(rt.alloc());
-    for _ in 0..65531 {
+    Ok(())
+}
+
+/// So many values of a table.
+fn ones(alloc: Global, count: u32) -> Result<Items<i128>, Memory> {
+    let mut values = Items::new(alloc);
+    for _ in 0..count {
         values.push(1)?;
     }
-    let path = Text::new(rt.alloc(), b"u")?;
+    Ok(values)
+}
+
+fn add_elements(alloc: Global, d: &mut Design, count: u32) -> Result<(), Memory> {
+    let path = Text::new(alloc, b"u")?;
+    let values = ones(alloc, count)?;
     d.tables.push(TableDecl { path, values })?;
-    for _ in 0..1023 {
-        let body = Items::new(rt.alloc());
-        d.generators.push(generator(rt.alloc(), body)?)?;
-    }
-    assert!(rt; well_formed(&d));
     Ok(())
+}
+
+fn add_generators(alloc: Global, d: &mut Design, count: u32) -> Result<(), Memory> {
+    for _ in 0..count {
+        d.generators.push(generator(alloc, Items::new(alloc))?)?;
+    }
+    Ok(())
+}
+
+fn add_all(
+    alloc: Global,
+    d: &mut Design,
+    signals: u32,
+    elements: u32,
+    count: u32,
+) -> Result<(), Memory> {
+    add_signals(alloc, d, signals)?;
+    add_elements(alloc, d, elements)?;
+    add_generators(alloc, d, count)
+}
+
+/// Whether a design fits to which so many signals, elements of a table, and generators are added.
+fn fits_with(alloc: Global, signals: u32, elements: u32, count: u32) -> Result<bool, Memory> {
+    let mut d = declared(alloc, 0)?;
+    add_all(alloc, &mut d, signals, elements, count)?;
+    Ok(well_formed(&d))
 }
 
 #[test]
 fn each_size_is_a_limit(rt: HostRuntime) -> Result<(), Fail> {
-    let mut d = declared(rt.alloc(), 0)?;
-    for _ in 0..4090 {
-        d.signals
-            .push(signal(rt.alloc(), b"s", Kind::Bool, 0, false)?)?;
-    }
-    assert!(rt; !well_formed(&d), "signals");
-    let mut d = declared(rt.alloc(), 0)?;
-    let mut values = Items::new(rt.alloc());
-    for _ in 0..65532 {
-        values.push(1)?;
-    }
-    let path = Text::new(rt.alloc(), b"u")?;
-    d.tables.push(TableDecl { path, values })?;
-    assert!(rt; !well_formed(&d), "elements");
-    let mut d = declared(rt.alloc(), 0)?;
-    for _ in 0..1024 {
-        let body = Items::new(rt.alloc());
-        d.generators.push(generator(rt.alloc(), body)?)?;
-    }
-    assert!(rt; !well_formed(&d), "generators");
+    let alloc = rt.alloc();
+    assert!(rt; fits_with(alloc, 4089, 65531, 1023)?);
+    assert!(rt; !fits_with(alloc, 4090, 1, 1)?, "signals");
+    assert!(rt; !fits_with(alloc, 1, 65532, 1)?, "elements");
+    assert!(rt; !fits_with(alloc, 1, 1, 1024)?, "generators");
     Ok(())
 }
 

@@ -7,11 +7,7 @@ mod design;
 mod expression;
 mod gate;
 mod names;
-mod parts;
-mod reading;
-#[cfg(test)]
-mod tests;
 
 pub use design::{Design, GStmt, GenKind, Generator, Kind, SignalDecl};
 pub use expression::GExpr;
-pub use gate::read_design;
+pub use gate::gate_of;

@@ -29,8 +29,3 @@ pub use language::{Expression, LeftSide, MyHdl};
 pub use laws::body_laws;
 pub use locals::first_locals;
 pub use store::Store;
-
-#[cfg(test)]
-mod body_tests;
-#[cfg(test)]
-mod tests;

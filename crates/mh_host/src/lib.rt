@@ -11,8 +11,6 @@ mod mem;
 mod never_fails;
 mod portion;
 mod shelf;
-#[cfg(test)]
-mod tests;
 
 pub use entries::Entry;
 pub use file::FileShelf;

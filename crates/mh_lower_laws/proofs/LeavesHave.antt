@@ -152,7 +152,7 @@ module _ (s : Scope) (d : Design) (holds : Holds s d) (list : ℕ) (cs : List Co
       let m : MemDecl = record { list = list; path = []; kind = k; cells = cells; line = 0 } in
       let there : slice_get (d.mems ++ m ∷ []) (length d.mems) ≡ Some m = get_end d.mems m in
       let fits : option_map_or (same_kind k) (cells_kind d cells) false ≡ true = ap (λ o. option_map_or (same_kind k) o false) h ∙ same_kind-self k in
-      let counts : option_map_or (λ vs. nat_eq (length cells) (length vs)) (slice_get s.lists list) true ≡ true = ap (λ o. option_map_or (λ (vs : List Const). nat_eq (length cells) (length vs)) o true) is_list ∙ eq-eqb (length cells) (length cs) l in
+      let counts : option_map_or (λ vs. nat_eq (length cells) (length vs)) (slice_get s.lists list) false ≡ true = ap (λ o. option_map_or (λ (vs : List Const). nat_eq (length cells) (length vs)) o false) is_list ∙ eq-eqb (length cells) (length cs) l in
       record {
         led = record {
           extends = x;
@@ -183,7 +183,7 @@ module _ (s : Scope) (d : Design) (holds : Holds s d) (list : ℕ) (cs : List Co
   count_of : (x : MemDecl) → nat_eq x.list list ≡ true → has_its_cells s x ≡ true → length x.cells ≡ length cs
   count_of x q h =
       let same : slice_get s.lists x.list ≡ Some cs = ap (slice_get s.lists) (eqb-true x.list list q) ∙ is_list in
-      eqb-true (length x.cells) (length cs) (ap (λ o. option_map_or (λ (vs : List Const). nat_eq (length x.cells) (length vs)) o true) (sym same) ∙ h)
+      eqb-true (length x.cells) (length cs) (ap (λ o. option_map_or (λ (vs : List Const). nat_eq (length x.cells) (length vs)) o false) (sym same) ∙ h)
 
   known_mem : (m : ℕ) (x : MemDecl) → slice_get d.mems m ≡ Some x → nat_eq x.list list ≡ true → (k : Kind) → mem_kind d m ≡ Some k → IsMemory (length cs) (m, k) d
   known_mem m x there q k h =

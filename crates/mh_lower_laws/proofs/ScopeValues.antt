@@ -54,7 +54,7 @@ use Rattle.mh_lower_laws.proofs.Stepping.{ok_after, ok_given, ok_if}
 
 -- ---- bounds and ranges
 
-inside_bits : (w n : ℕ) → n < 2 ^ w → is_inside (pos 0) (pos (2 ^ w - 1)) (pos n) ≡ true
+pub inside_bits : (w n : ℕ) → n < 2 ^ w → is_inside (pos 0) (pos (2 ^ w - 1)) (pos n) ≡ true
 inside_bits w n h = grind (arith, ints)
 
 inside_between : (low high v : ℤ) → (int_le low v && int_lt v high) ≡ true → is_inside low (high -ℤ pos 1) v ≡ true
@@ -145,15 +145,15 @@ module _ (d : Design) where
   integer_fine (Some n) = of_int n
   integer_fine None = tt
 
-  any_number : (r : Result ℤ Code) (f : ℤ → Outcome) → ((n : ℤ) → IfOk (f n) Of) → IfOk (after r f) Of
+  pub any_number : (r : Result ℤ Code) (f : ℤ → Outcome) → ((n : ℤ) → IfOk (f n) Of) → IfOk (after r f) Of
   any_number (Ok n) f h = h n
   any_number (Err code) f h = tt
 
-  any_truth : (r : Result Bool Code) (f : Bool → Outcome) → ((b : Bool) → IfOk (f b) Of) → IfOk (after r f) Of
+  pub any_truth : (r : Result Bool Code) (f : Bool → Outcome) → ((b : Bool) → IfOk (f b) Of) → IfOk (after r f) Of
   any_truth (Ok b) f h = h b
   any_truth (Err code) f h = tt
 
-  bits_fine : (w : ℕ) (wraps : Bool) (v : ℤ) → is_inside (pos 0) (pos (2 ^ w - 1)) v ≡ true → IfOk (operators.bits w wraps v) Of
+  pub bits_fine : (w : ℕ) (wraps : Bool) (v : ℤ) → is_inside (pos 0) (pos (2 ^ w - 1)) v ≡ true → IfOk (operators.bits w wraps v) Of
   bits_fine w wraps v h = ok_given Of (bounds_of (pos 0) (pos (2 ^ w - 1)) wraps) E5TooWide _ (λ b e. of_bounded v b (inside_made (pos 0) (pos (2 ^ w - 1)) v wraps b e h))
 
   inverse_fine : (lo top v : ℤ) (o : Option ℤ) → in_i128 (inverse_of (width_of lo top) v) ≡ o → is_signed lo ≡ false → is_inside lo top v ≡ true → IfOk (operators.bits_of_inverse (width_of lo top) o) Of
@@ -180,7 +180,7 @@ module _ (d : Design) where
   inverted_fine (Const-F.Generator n) h = tt
   inverted_fine (Const-F.Builtin b) h = tt
 
-  signed_fine : (o : Sign) (v : Const) → Of v → IfOk (operators.signed o v) Of
+  pub signed_fine : (o : Sign) (v : Const) → Of v → IfOk (operators.signed o v) Of
   signed_fine sign.Minus v h = any_number (operand v) _ (λ n. integer_fine (in_i128 (pos 0 -ℤ n)))
   signed_fine sign.Plus v h = any_number (operand v) _ (λ n. of_int n)
   signed_fine sign.Invert v h = inverted_fine (out-Const v) (opened v h)
@@ -241,7 +241,7 @@ module _ (d : Design) where
   bits_of_fine o (Some a) None r h = h
   bits_of_fine o None b r h = h
 
-  operated_fine : (o : Operator) (a b : Const) → IfOk (operators.operated o a b) Of
+  pub operated_fine : (o : Operator) (a b : Const) → IfOk (operators.operated o a b) Of
   operated_fine op.Or a b = tt
   operated_fine op.And a b = tt
   operated_fine op.Equal a b = truths_fine (operators.equal a b)
@@ -298,7 +298,7 @@ module _ (d : Design) where
       (λ e. ok_if Of (bytes_eq name (codes "posedge")) _ _ (λ f. edge_fine n k true h)
       (λ f. ok_if Of (bytes_eq name (codes "negedge")) _ _ (λ g. edge_fine n k false h) (λ g. signal_bound_fine name k)))
 
-  attribute_fine : (name : List ℕ) (x : Const-F Const) → step_of d x ≡ true → IfOk (places.attribute_step name x) Of
+  pub attribute_fine : (name : List ℕ) (x : Const-F Const) → step_of d x ≡ true → IfOk (places.attribute_step name x) Of
   attribute_fine name Const-F.None h = tt
   attribute_fine name (Const-F.Int n) h = tt
   attribute_fine name (Const-F.Truth b) h = tt
@@ -325,11 +325,11 @@ module _ (d : Design) where
       by_item None e = tt
       by_item (Some v) e = all_at (is_of d) vs i v h e
 
-  any_place : (r : Result ℕ Code) (f : ℕ → Outcome) → ((i : ℕ) → IfOk (f i) Of) → IfOk (after r f) Of
+  pub any_place : (r : Result ℕ Code) (f : ℕ → Outcome) → ((i : ℕ) → IfOk (f i) Of) → IfOk (after r f) Of
   any_place (Ok i) f h = h i
   any_place (Err code) f h = tt
 
-  item_of_fine : (vs : List Const) (at : Const) → AllOf vs → IfOk (places.item_of vs at) Of
+  pub item_of_fine : (vs : List Const) (at : Const) → AllOf vs → IfOk (places.item_of vs at) Of
   item_of_fine vs at h = any_place (places.place (length vs) at) _ (λ i. given_fine vs i E4BadRange h)
 
   within_fine : (w : ℕ) (wraps : Bool) (v i j : ℤ) → IfOk (places.slice_within w wraps v i j) Of
@@ -337,7 +337,7 @@ module _ (d : Design) where
   within_fine w wraps v (pos i) (negsuc j) = tt
   within_fine w wraps v (negsuc i) j = tt
 
-  slice_fine : (x : Const-F Const) (upper : Const) (lower : Result ℤ Code) → IfOk (places.slice_step x upper lower) Of
+  pub slice_fine : (x : Const-F Const) (upper : Const) (lower : Result ℤ Code) → IfOk (places.slice_step x upper lower) Of
   slice_fine Const-F.None upper lower = tt
   slice_fine (Const-F.Int n) upper lower = tt
   slice_fine (Const-F.Truth b) upper lower = tt
@@ -362,7 +362,7 @@ module _ (d : Design) where
   resized_fine : (wraps : Bool) (base n : Const) → IfOk (places.resized wraps base n) Of
   resized_fine wraps base n = any_number (operand base) _ (λ v. any_number (operand n) _ (λ k. low_bits_fine wraps v k))
 
-  from_fine : (base upper : Const) → IfOk (places.sliced_from base upper) Of
+  pub from_fine : (base upper : Const) → IfOk (places.sliced_from base upper) Of
   from_fine base upper = slice_fine (out-Const base) upper (Ok (pos 0))
 
   -- ---- calls
@@ -381,7 +381,7 @@ module _ (d : Design) where
   range_step_fine : (a b n : Result ℤ Code) → IfOk (calls.range_step a b n) Of
   range_step_fine a b n = any_number a _ (λ x. any_number b _ (λ y. any_number n _ (λ z. stepped_fine x y z)))
 
-  range_fine : (vs : List Const) → IfOk (calls.range vs) Of
+  pub range_fine : (vs : List Const) → IfOk (calls.range vs) Of
   range_fine [] = tt
   range_fine (b ∷ []) = range_step_fine (Ok (pos 0)) (argument b) (Ok (pos 1))
   range_fine (a ∷ b ∷ []) = range_step_fine (argument a) (argument b) (Ok (pos 1))
@@ -394,7 +394,7 @@ module _ (d : Design) where
   downrange_step_fine : (a b n : Result ℤ Code) → IfOk (calls.downrange_step a b n) Of
   downrange_step_fine a b n = any_number a _ (λ x. any_number b _ (λ y. any_number n _ (λ z. down_fine x y z)))
 
-  downrange_fine : (vs : List Const) → IfOk (calls.downrange vs) Of
+  pub downrange_fine : (vs : List Const) → IfOk (calls.downrange vs) Of
   downrange_fine [] = tt
   downrange_fine (a ∷ []) = downrange_step_fine (argument a) (Ok (pos 0)) (Ok (pos 1))
   downrange_fine (a ∷ b ∷ []) = downrange_step_fine (argument a) (argument b) (Ok (pos 1))
@@ -430,17 +430,17 @@ module _ (d : Design) where
   length_fine s (Const-F.Generator n) = tt
   length_fine s (Const-F.Builtin b) = tt
 
-  length_of_fine : (s : Scope) (vs : List Const) → IfOk (calls.length_of s vs) Of
+  pub length_of_fine : (s : Scope) (vs : List Const) → IfOk (calls.length_of s vs) Of
   length_of_fine s [] = tt
   length_of_fine s (v ∷ []) = length_fine s (out-Const v)
   length_of_fine s (v ∷ w ∷ vs) = tt
 
-  integer_of_fine : (vs : List Const) → IfOk (calls.integer_of vs) Of
+  pub integer_of_fine : (vs : List Const) → IfOk (calls.integer_of vs) Of
   integer_of_fine [] = tt
   integer_of_fine (v ∷ []) = any_number (converted v) _ (λ n. of_int n)
   integer_of_fine (v ∷ w ∷ vs) = tt
 
-  truth_of_fine : (vs : List Const) → IfOk (calls.truth_of vs) Of
+  pub truth_of_fine : (vs : List Const) → IfOk (calls.truth_of vs) Of
   truth_of_fine [] = tt
   truth_of_fine (v ∷ []) = any_number (converted v) _ (λ n. of_truth (is_not_zero n))
   truth_of_fine (v ∷ w ∷ vs) = tt
@@ -484,7 +484,7 @@ module _ (d : Design) where
       whichever (λ f. calls.made wraps f vs) (calls.all_positional keys) _ _ (record { fine = made_of_fine vs })
       (whichever (λ f. calls.made wraps f vs) (nat_eq (length keys) 3) _ _ (three_fine wraps vs (calls.key_at keys 0) (calls.key_at keys 1) (calls.key_at keys 2)) (record { fine = tt }))
 
-  made_fine : (wraps : Bool) (keys : Keys) (vs : List Const) → IfOk (calls.made wraps (calls.form_of keys) vs) Of
+  pub made_fine : (wraps : Bool) (keys : Keys) (vs : List Const) → IfOk (calls.made wraps (calls.form_of keys) vs) Of
   made_fine wraps keys vs = (made_ways wraps keys vs).fine
 
   pair_other : (r : Outcome) (a b : List ℕ) → Ways (λ f. calls.if_positional f r) (calls.pair_form a b)
@@ -503,10 +503,10 @@ module _ (d : Design) where
       whichever (λ f. calls.if_positional f r) (calls.all_positional keys) _ _ (record { fine = h })
       (whichever (λ f. calls.if_positional f r) (nat_eq (length keys) 3) _ _ (three_other r (calls.key_at keys 0) (calls.key_at keys 1) (calls.key_at keys 2)) (record { fine = tt }))
 
-  positional_fine : (keys : Keys) (r : Outcome) → IfOk r Of → IfOk (calls.if_positional (calls.form_of keys) r) Of
+  pub positional_fine : (keys : Keys) (r : Outcome) → IfOk r Of → IfOk (calls.if_positional (calls.form_of keys) r) Of
   positional_fine keys r h = (positional_ways keys r h).fine
 
-  builtin_fine : (s : Scope) (b : Builtin) (keys : Keys) (vs : List Const) → is_plain_builtin b ≡ true → IfOk (calls.called_builtin s b (calls.form_of keys) vs) Of
+  pub builtin_fine : (s : Scope) (b : Builtin) (keys : Keys) (vs : List Const) → is_plain_builtin b ≡ true → IfOk (calls.called_builtin s b (calls.form_of keys) vs) Of
   builtin_fine s builtin.Range keys vs h = positional_fine keys _ (range_fine vs)
   builtin_fine s builtin.Downrange keys vs h = positional_fine keys _ (downrange_fine vs)
   builtin_fine s builtin.Len keys vs h = positional_fine keys _ (length_of_fine s vs)
@@ -550,16 +550,16 @@ module _ (d : Design) where
 
   -- ---- parts
 
-  part_fine : (vs : List Const) (i : ℕ) (f : Const → Outcome) → AllOf vs → ((v : Const) → slice_get vs i ≡ Some v → Of v → IfOk (f v) Of) → IfOk (after (part vs i) f) Of
+  pub part_fine : (vs : List Const) (i : ℕ) (f : Const → Outcome) → AllOf vs → ((v : Const) → slice_get vs i ≡ Some v → Of v → IfOk (f v) Of) → IfOk (after (part vs i) f) Of
   part_fine vs i f h k = ok_given Of (slice_get vs i) E10KindClash f (λ v e. k v e (all_at (is_of d) vs i v h e))
 
-  one_fine : (vs : List Const) (f : Const → Outcome) → AllOf vs → ((v : Const) → Of v → IfOk (f v) Of) → IfOk (with_one vs f) Of
+  pub one_fine : (vs : List Const) (f : Const → Outcome) → AllOf vs → ((v : Const) → Of v → IfOk (f v) Of) → IfOk (with_one vs f) Of
   one_fine vs f h k = part_fine vs 0 f h (λ v e. k v)
 
-  two_fine : (vs : List Const) (f : Const → Const → Outcome) → AllOf vs → ((v w : Const) → Of v → Of w → IfOk (f v w) Of) → IfOk (with_two vs f) Of
+  pub two_fine : (vs : List Const) (f : Const → Const → Outcome) → AllOf vs → ((v w : Const) → Of v → Of w → IfOk (f v w) Of) → IfOk (with_two vs f) Of
   two_fine vs f h k = part_fine vs 0 _ h (λ v e p. part_fine vs 1 _ h (λ w g q. k v w p q))
 
-  three_parts_fine : (vs : List Const) (f : Const → Const → Const → Outcome) → AllOf vs → ((v w z : Const) → IfOk (f v w z) Of) → IfOk (with_three vs f) Of
+  pub three_parts_fine : (vs : List Const) (f : Const → Const → Const → Outcome) → AllOf vs → ((v w z : Const) → IfOk (f v w z) Of) → IfOk (with_three vs f) Of
   three_parts_fine vs f h k = part_fine vs 0 _ h (λ v e p. part_fine vs 1 _ h (λ w g q. part_fine vs 2 _ h (λ z i r. k v w z)))
 
   resizing_fine : (x : Const-F Const) (base n : Const) → IfOk (places.resized_step x base n) Of
@@ -601,7 +601,7 @@ module _ (d : Design) where
   resizing_fine (Const-F.Instance m) base n = from_fine base n
   resizing_fine (Const-F.Generator m) base n = from_fine base n
 
-  resized_by_fine : (o : Option Const) (base n : Const) → IfOk (places.resized_by o base n) Of
+  pub resized_by_fine : (o : Option Const) (base n : Const) → IfOk (places.resized_by o base n) Of
   resized_by_fine None base n = from_fine base n
   resized_by_fine (Some v) base n = resizing_fine (out-Const v) base n
 
@@ -614,10 +614,10 @@ module _ (d : Design) where
   any_outcome (Ok v) f h = h v
   any_outcome (Err code) f h = tt
 
-  conjunction_fine : (a b : Outcome) → IfOk (conjunction a b) Of
+  pub conjunction_fine : (a b : Outcome) → IfOk (conjunction a b) Of
   conjunction_fine a b = any_outcome a _ (λ v. any_truth (truth v) _ (λ t. ok_if Of t _ _ (λ e. any_outcome b _ truth_value_fine) (λ e. of_truth false)))
 
-  disjunction_fine : (a b : Outcome) → IfOk (disjunction a b) Of
+  pub disjunction_fine : (a b : Outcome) → IfOk (disjunction a b) Of
   disjunction_fine a b = any_outcome a _ (λ v. any_truth (truth v) _ (λ t. ok_if Of t _ _ (λ e. of_truth true) (λ e. any_outcome b _ truth_value_fine)))
 
   module _ (s : Scope) (names : list_all (λ entry. is_of d entry.1) s.names ≡ true) (lists : list_all (list_all (is_of d)) s.lists ≡ true) where
@@ -625,7 +625,7 @@ module _ (d : Design) where
     by_name true w o v h k e = let q : w ≡ v = cc in ap (is_of d) (sym q) ∙ h
     by_name false w o v h k e = k e
 
-    looked_up : (es : List (List ℕ × Const)) (t : List ℕ) (v : Const) → list_all (λ entry. is_of d entry.1) es ≡ true → lookup es t ≡ Some v → Of v
+    pub looked_up : (es : List (List ℕ × Const)) (t : List ℕ) (v : Const) → list_all (λ entry. is_of d entry.1) es ≡ true → lookup es t ≡ Some v → Of v
     looked_up [] t v h e = absurd (cc)
     looked_up (entry ∷ es) t v h e =
         let a = and_parts (is_of d entry.1) (list_all (λ other. is_of d other.1) es) h in
@@ -637,7 +637,7 @@ module _ (d : Design) where
     pub list_of : (n : ℕ) (vs : List Const) → slice_get s.lists n ≡ Some vs → AllOf vs
     list_of n vs e = all_at (list_all (is_of d)) s.lists n vs lists e
 
-    indexed_fine : (x : Const-F Const) (at : Const) → step_of d x ≡ true → IfOk (places.indexed_step s x at) Of
+    pub indexed_fine : (x : Const-F Const) (at : Const) → step_of d x ≡ true → IfOk (places.indexed_step s x at) Of
     indexed_fine Const-F.None at h = tt
     indexed_fine (Const-F.Int n) at h = tt
     indexed_fine (Const-F.Truth b) at h = tt

@@ -47,9 +47,9 @@ is_of d = fold-Const Bool (value_step d)
 
 -- ---- a scope and a design
 
--- a memory has as many elements as its list
+-- a memory has as many elements as its list, which is there
 abbrev pub has_its_cells : Scope → MemDecl → Bool
-has_its_cells s m = option_map_or (λ vs. nat_eq (length m.cells) (length vs)) (slice_get s.lists m.list) true
+has_its_cells s m = option_map_or (λ vs. nat_eq (length m.cells) (length vs)) (slice_get s.lists m.list) false
 
 pub record Holds (s : Scope) (d : Design) : Type 0 where
   -- what the scope holds is of the design

@@ -13,8 +13,6 @@ mod shape;
 mod state;
 mod steps;
 mod strings;
-#[cfg(test)]
-mod tests;
 mod token;
 mod words;
 

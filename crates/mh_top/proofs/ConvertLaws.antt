@@ -8,7 +8,7 @@ use Rattle.mh_host.specs.declared.shelf.Fetched.TheVariants.{Whole, TooLong}
 use Rattle.mh_text.specs.declared.code.Code.{Code}
 use Rattle.mh_text.specs.declared.memory.Memory.{Memory}
 use Rattle.mh_top.proofs.RunLaws.{told_as, told_then, told_with}
-use Rattle.mh_top.proofs.WordLaws.{same_file, same_out}
+use Rattle.mh_top.proofs.WordLaws.{not_sim, same_file, same_out}
 use Rattle.mh_top.specs.Commands.{Completes, Ends}
 use Rattle.mh_top.specs.Convert.{ConvertEnds, done, refused, unfetched, unstored, no_memory, too_long, ConvertCompletes, HasConverted, HasFoundTooLong, HasRefused, HasStoredInPart, StatusFits}
 use Rattle.mh_top.specs.Emission.{module_of}
@@ -18,7 +18,7 @@ use Rattle.mh_top.specs.Run.{Complained, Complains, HasFailedFetch, IsFaultFree,
 use Rattle.mh_top.specs.Steps.{EndsSource, IsTextOf, SourceEnds, StoresText}
 use Rattle.mh_top.specs.Steps as step
 use Rattle.mh_top.specs.VerilogText.{text}
-use Rattle.mh_top.specs.Words.{Command, Convert, Gives, IsConvert}
+use Rattle.mh_top.specs.Words.{Command, Convert, Sim, Gives, IsConvert}
 use Rattle.mh_top.specs.declared.status.TheConstants.Status.{DONE, REFUSED, WORDS, SHELF, MEMORY, TOO_LONG}
 
 abbrev run_of : Option Seen → Option Seen → Counts → Counts → Run
@@ -215,12 +215,14 @@ never_words file out run status ends is = by ends.0 ends.1
 pub completes_as : (words : List (List ℕ)) (file out : List ℕ) (run : Run) (status : ℕ) → IsConvert words file out → ConvertCompletes file run status → (command : Command) → Gives words command → Completes command run status
 completes_as words file out run status one completes (Convert file' out') other =
     subst (λ (name : List ℕ). ConvertCompletes name run status) (same_file words file out file' out' one other) completes
+completes_as words file out run status one completes (Sim file') other = absurd (not_sim words file out file' one other)
 
 -- how the command ends, said of each command that the words give
 pub ends_as : (words : List (List ℕ)) (file out : List ℕ) (run : Run) (status : ℕ) → IsConvert words file out → Ends (Convert file out) run status → (command : Command) → Gives words command → Ends command run status
 ends_as words file out run status one ends (Convert file' out') other =
     subst (λ (name : List ℕ). Ends (Convert file' name) run status) (same_out words file out file' out' one other)
     (subst (λ (name : List ℕ). Ends (Convert name out) run status) (same_file words file out file' out' one other) ends)
+ends_as words file out run status one ends (Sim file') other = absurd (not_sim words file out file' one other)
 
 -- the source is refused
 pub source_refused : (source out line said : List ℕ) (code : Code) (number : ℕ) (run : Run) (status : ℕ) → IsRefusedFor source code number → SpellsNone source → line ≡ refusal_line code number → said ≡ line → status ≡ REFUSED → OnlyComplains said run → EndsSource source out run status

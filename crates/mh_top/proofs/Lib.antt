@@ -3,3 +3,6 @@ pub mod SourceLaws
 pub mod WordLaws
 pub mod RunLaws
 pub mod ConvertLaws
+pub mod SpeechLaws
+pub mod SimLaws
+pub mod DriveLaws

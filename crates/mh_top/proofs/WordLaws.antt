@@ -3,8 +3,8 @@ use Rattle.std.proofs.Common.{ℕ, List, [], ◌∷◌, ◌≡◌, ◌≢◌, �
 use Rattle.std.proofs.lemmas.Bool.{and_parts, not-true, true≢false, false_from_ne_true, eq-eqb, ne_eqb}
 use Rattle.std.proofs.lemmas.Slice.Eq.{bytes_eq-Decides}
 use Rattle.std.specs.Str.{bytes_eq}
-use Rattle.mh_top.specs.CommandOf.{are_convert, is_file_name}
-use Rattle.mh_top.specs.Words.{Convert, GivesNone, IsConvert, IsFileName}
+use Rattle.mh_top.specs.CommandOf.{are_convert, are_sim, is_file_name}
+use Rattle.mh_top.specs.Words.{Convert, Sim, GivesNone, IsConvert, IsFileName, IsSim}
 
 file_name : (word : List ℕ) → is_file_name word ≡ true → IsFileName word
 file_name [] h = absurd (true≢false (sym h))
@@ -56,10 +56,42 @@ given_passes verb file option out file' out' given =
 pub nothing_given : (words : List (List ℕ)) (verb file option out : List ℕ) → words ≡ verb ∷ file ∷ option ∷ out ∷ [] → are_convert verb file option out ≡ false → GivesNone words
 nothing_given words verb file option out shape h (Convert file' out') given =
     true≢false (sym (given_passes verb file option out file' out' (subst (λ (ws : List (List ℕ)). IsConvert ws file' out') shape given)) ∙ h)
+nothing_given words verb file option out shape h (Sim file') given =
+    let two : codes "sim" ∷ file' ∷ [] ≡ verb ∷ file ∷ option ∷ out ∷ [] = sym given.spelled ∙ shape in
+    cc
+
+-- ---- two words
+
+pub sim_given : (words : List (List ℕ)) (verb file : List ℕ) → words ≡ verb ∷ file ∷ [] → are_sim verb file ≡ true → IsSim words file
+sim_given words verb file shape h =
+    let both = and_parts (bytes_eq verb (codes "sim")) (is_file_name file) h in
+    record { spelled = shape ∙ ap (λ (word : List ℕ). word ∷ file ∷ []) ((bytes_eq-Decides verb (codes "sim")).0 both.0); source = file_name file both.1 }
+
+-- the words of the command pass the test
+sim_passes : (verb file file' : List ℕ) → IsSim (verb ∷ file ∷ []) file' → are_sim verb file ≡ true
+sim_passes verb file file' given =
+    let spelled = given.spelled in
+    let first : verb ≡ codes "sim" = cc in
+    let second : file ≡ file' = cc in
+    and_true (bytes_eq verb (codes "sim")) (is_file_name file) ((bytes_eq-Decides verb (codes "sim")).1 first) (file_name_back file (subst IsFileName (sym second) given.source))
+
+pub nothing_in_two : (words : List (List ℕ)) (verb file : List ℕ) → words ≡ verb ∷ file ∷ [] → are_sim verb file ≡ false → GivesNone words
+nothing_in_two words verb file shape h (Convert file' out') given =
+    let four : codes "convert" ∷ file' ∷ codes "--verilog" ∷ out' ∷ [] ≡ verb ∷ file ∷ [] = sym given.spelled ∙ shape in
+    cc
+nothing_in_two words verb file shape h (Sim file') given =
+    true≢false (sym (sim_passes verb file file' (subst (λ (ws : List (List ℕ)). IsSim ws file') shape given)) ∙ h)
+
+pub two_words : (words : List (List ℕ)) (a b : List ℕ) → length words ≡ 2 → a ≡ get_or words 0 a → b ≡ get_or words 1 b → words ≡ a ∷ b ∷ []
+two_words [] a b n p q = absurd (omega arith)
+two_words (w ∷ []) a b n p q = absurd (omega arith)
+two_words (w ∷ x ∷ []) a b n p q = cc
+two_words (w ∷ x ∷ y ∷ ws) a b n p q = absurd (omega arith)
 
 -- another number of words
-pub other_number : (words : List (List ℕ)) → length words ≢ 4 → GivesNone words
-other_number words h (Convert file out) given = h (ap length given.spelled)
+pub other_number : (words : List (List ℕ)) → length words ≢ 2 → length words ≢ 4 → GivesNone words
+other_number words two four (Convert file out) given = four (ap length given.spelled)
+other_number words two four (Sim file) given = two (ap length given.spelled)
 
 -- four words, by their places
 pub four_words : (words : List (List ℕ)) (a b c d : List ℕ) → length words ≡ 4 → a ≡ get_or words 0 a → b ≡ get_or words 1 b → c ≡ get_or words 2 c → d ≡ get_or words 3 d → words ≡ a ∷ b ∷ c ∷ d ∷ []
@@ -80,4 +112,15 @@ same_file words file out file' out' one other =
 pub same_out : (words : List (List ℕ)) (file out file' out' : List ℕ) → IsConvert words file out → IsConvert words file' out' → out ≡ out'
 same_out words file out file' out' one other =
     let same : codes "convert" ∷ file ∷ codes "--verilog" ∷ out ∷ [] ≡ codes "convert" ∷ file' ∷ codes "--verilog" ∷ out' ∷ [] = sym one.spelled ∙ other.spelled in
+    cc
+
+-- words that give one command give it alone
+pub not_sim : (words : List (List ℕ)) (file out file' : List ℕ) → IsConvert words file out → IsSim words file' → ⊥
+not_sim words file out file' one other =
+    let same : codes "convert" ∷ file ∷ codes "--verilog" ∷ out ∷ [] ≡ codes "sim" ∷ file' ∷ [] = sym one.spelled ∙ other.spelled in
+    cc
+
+pub same_source : (words : List (List ℕ)) (file file' : List ℕ) → IsSim words file → IsSim words file' → file ≡ file'
+same_source words file file' one other =
+    let same : codes "sim" ∷ file ∷ [] ≡ codes "sim" ∷ file' ∷ [] = sym one.spelled ∙ other.spelled in
     cc

@@ -1,10 +1,14 @@
 pub mod CommandOf
 pub mod Commands
 pub mod Convert
+pub mod Driving
 pub mod Emission
 pub mod Lines
 pub mod Pieces
 pub mod Run
+pub mod SimSteps
+pub mod Simulate
+pub mod Simulated
 pub mod Source
 pub mod Steps
 pub mod VerilogText

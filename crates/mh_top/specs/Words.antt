@@ -5,6 +5,8 @@ use Rattle.std.specs.Prelude.{ℕ, List, [], ◌∷◌, ◌≡◌, ◌≢◌, co
 pub data Command : Type 0 where
   -- convert the source that `file` holds, and store its Verilog text under `out`
   Convert : (file out : List ℕ) → Command
+  -- run what the source that `file` holds asks to run, and print its lines
+  Sim : (file : List ℕ) → Command
 
 -- The name of a file isn't empty and doesn't begin with a hyphen.
 abbrev pub IsFileName : List ℕ → Type 0
@@ -18,9 +20,15 @@ pub record IsConvert (words : List (List ℕ)) (file out : List ℕ) : Type 0 wh
   pub text : IsFileName out
   pub differ : file ≢ out
 
+-- `sim FILE`.
+pub record IsSim (words : List (List ℕ)) (file : List ℕ) : Type 0 where
+  pub spelled : words ≡ codes "sim" ∷ file ∷ []
+  pub source : IsFileName file
+
 -- The words (without the program's name) give a command.
 abbrev pub Gives : List (List ℕ) → Command → Type 0
 Gives words (Convert file out) = IsConvert words file out
+Gives words (Sim file) = IsSim words file
 
 -- The words give no command.
 abbrev pub GivesNone : List (List ℕ) → Type 0

@@ -1,7 +1,7 @@
 //! The words of the command line.
 
-ghost use Rattle.std.specs.Prelude.{◌≡◌};
-ghost use Rattle.mh_top.specs.CommandOf.{are_convert, is_file_name as is_name, IsCommandOf};
+ghost use Rattle.std.specs.Prelude.{◌≡◌, length};
+ghost use Rattle.mh_top.specs.CommandOf.{are_convert, are_sim, is_file_name as is_name, IsCommandOf};
 
 use mh_text::Text;
 
@@ -9,6 +9,8 @@ use mh_text::Text;
 pub(crate) enum Command<'a> {
     /// Convert the source that `file` holds, and store its Verilog text under `out`.
     Convert { file: &'a Text, out: &'a Text },
+    /// Run what the source that `file` holds asks to run.
+    Sim { file: &'a Text },
     /// The words give no command.
     Unknown,
 }
@@ -34,13 +36,31 @@ fn is_convert(verb: &[u8], file: &[u8], option: &[u8], out: &[u8]) -> bool
         && file != out
 }
 
-/// The command that the words give.
-pub(crate) fn command_of(words: &[Text]) -> Command<'_>
+/// Whether two words are those of `sim`.
+fn is_sim(verb: &[u8], file: &[u8]) -> bool
+    ensures { result ≡ are_sim verb.now file.now }
+{
+    verb == b"sim".as_slice() && is_file_name(file)
+}
+
+/// The command that two words give.
+fn command_of_two(words: &[Text]) -> Command<'_>
+    requires { length words.now ≡ 2 }
     ensures { IsCommandOf words.now result }
 {
-    if words.len() != 4 {
-        return Command::Unknown;
+    let file = &words[1];
+    if is_sim(words[0].bytes(), file.bytes()) {
+        Command::Sim { file }
+    } else {
+        Command::Unknown
     }
+}
+
+/// The command that four words give.
+fn command_of_four(words: &[Text]) -> Command<'_>
+    requires { length words.now ≡ 4 }
+    ensures { IsCommandOf words.now result }
+{
     let file = &words[1];
     let out = &words[3];
     if is_convert(
@@ -52,5 +72,16 @@ pub(crate) fn command_of(words: &[Text]) -> Command<'_>
         Command::Convert { file, out }
     } else {
         Command::Unknown
+    }
+}
+
+/// The command that the words give.
+pub(crate) fn command_of(words: &[Text]) -> Command<'_>
+    ensures { IsCommandOf words.now result }
+{
+    match words.len() {
+        2 => command_of_two(words),
+        4 => command_of_four(words),
+        _ => Command::Unknown,
     }
 }

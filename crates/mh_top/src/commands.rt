@@ -6,6 +6,7 @@ use crate::command;
 use crate::command::command_of;
 use crate::complaint::complain;
 use crate::convert::convert;
+use crate::sim::sim;
 use crate::status::Status;
 use mh_host::Shelf;
 use mh_text::Text;
@@ -30,6 +31,7 @@ pub fn run<S: Shelf>(alloc: Global, words: &[Text], shelf: &mut S) -> Status
 {
     match command_of(words) {
         command::Command::Convert { file, out } => convert(alloc, file, out, shelf),
+        command::Command::Sim { file } => sim(alloc, file, shelf),
         command::Command::Unknown => complain(shelf, b"error words\n", Status::WORDS),
     }
 }

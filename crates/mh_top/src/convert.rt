@@ -13,7 +13,7 @@ use mh_text::{Memory, Refusal, Text};
 use std::alloc::Global;
 
 /// The most bytes that a source may have.
-const SOURCE_LIMIT: u64 = 1 << 20;
+pub(crate) const SOURCE_LIMIT: u64 = 1 << 20;
 
 /// What is to be done for a source.
 #[derive(Drop)]

@@ -7,11 +7,11 @@ mod command;
 mod commands;
 mod complaint;
 mod convert;
+mod drive;
 mod lines;
+mod sim;
 mod source;
 mod status;
-#[cfg(test)]
-mod tests;
 pub mod vlog;
 mod writing;
 

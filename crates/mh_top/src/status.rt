@@ -9,6 +9,8 @@ impl Status {
     pub const DONE: u8 = 0;
     /// The source was refused.
     pub const REFUSED: u8 = 1;
+    /// A run met a fault other than a limit.
+    pub const FAULT: u8 = 2;
     /// The words give no command.
     pub const WORDS: u8 = 3;
     /// A file or an output failed.

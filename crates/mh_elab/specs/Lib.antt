@@ -1,0 +1,9 @@
+pub mod Loops
+pub mod Bodies
+pub mod Reads
+pub mod Definitions
+pub mod Elaboration
+pub mod Machine
+pub mod Answer
+pub mod Views
+pub mod Frames

@@ -1,0 +1,11 @@
+pub mod UseLaws
+pub mod NumberLaws
+pub mod RowLaws
+pub mod PathLaws
+pub mod WalkLaws
+pub mod SetLaws
+pub mod DesignLaws
+pub mod AdvanceLaws
+pub mod ReadLaws
+pub mod MapLaws
+pub mod EndLaws

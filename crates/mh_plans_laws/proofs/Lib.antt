@@ -1,0 +1,9 @@
+pub mod Numbers
+pub mod Pathing
+pub mod Renumbering
+pub mod Stating
+pub mod Walking
+pub mod Using
+pub mod Covering
+pub mod Drawing
+pub mod Planning

@@ -1,0 +1,10 @@
+pub mod Shapes
+pub mod Numbers
+pub mod Inner
+pub mod Splits
+pub mod Turns
+pub mod Places
+pub mod OnceLaws
+pub mod Operations
+pub mod Few
+pub mod Labels

@@ -1,0 +1,16 @@
+pub mod Statements
+pub mod World
+pub mod Seen
+pub mod Named
+pub mod Labels
+pub mod Lists
+pub mod Signals
+pub mod Arguments
+pub mod Blocks
+pub mod Once
+pub mod Requests
+pub mod Heads
+pub mod Frozen
+pub mod Functions
+pub mod Placed
+pub mod View

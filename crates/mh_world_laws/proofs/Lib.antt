@@ -1,0 +1,14 @@
+pub mod Lists
+pub mod SourceParts
+pub mod Designs
+pub mod Worlds
+pub mod Marking
+pub mod Keeping
+pub mod Binding
+pub mod Seeing
+pub mod Listing
+pub mod Applying
+pub mod Making
+pub mod Operating
+pub mod Calling
+pub mod Reading
