@@ -1,0 +1,4 @@
+pub mod Trees
+pub mod Designs
+pub mod Sources
+pub mod Runs
