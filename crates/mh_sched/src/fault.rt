@@ -24,6 +24,8 @@ pub enum SimFault {
 }
 
 impl From<Memory> for SimFault {
+    ghost from_gives = { λ _ e. e ≡ variant.Memory };
+
     fn from(_wanting: Memory) -> SimFault {
         SimFault::Memory
     }
