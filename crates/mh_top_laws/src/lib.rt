@@ -33,7 +33,7 @@ pub fn source_law()
 
 /// The run that a source asks for ends in one way and prints one text, and a source that has one isn't refused. Does
 /// nothing.
-pub fn run_law<'a>()
+pub fn run_law()
     ensures ends { RunsAreDetermined }
     ensures refusals { RunsAreNotRefused }
 {
