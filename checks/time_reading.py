@@ -1,11 +1,11 @@
 #!/usr/bin/env python3
-"""Times how the program reads a source: its tokens and its tree.
+"""Times how the program reads a source: its tokens and its tree, and the execution of its definitions.
 
     time_reading.py ROOT
 
 ROOT is the top of the repository. Sources of ordinary text of about 100 KiB and 1 MiB are given to the
 program that the script `myhdl` has built, with `convert`, which reads the whole source and then refuses
-it, since no such form is converted. Prints the best of five times of each, the start of the program on
+it, since it asks for no conversion. Prints the best of five times of each, the start of the program on
 an empty source taken off. Ends with status 1 where the greater takes more than two seconds, or more
 than twice as long for each byte as the smaller.
 """
@@ -49,7 +49,7 @@ def best_time(program, folder, source):
         start = time.perf_counter()
         ended = subprocess.run([program, "convert", path, "--verilog", os.path.join(folder, "out.v")], capture_output=True)
         taken = time.perf_counter() - start
-        if (ended.returncode, ended.stderr) != (1, b"error N1 NotYet line 0\n"):
+        if (ended.returncode, ended.stderr) != (1, b"error C1 NoTop line 0\n"):
             sys.exit(f"the program ended with {ended.returncode}: {ended.stderr!r}")
         best = taken if best is None else min(best, taken)
     return best
