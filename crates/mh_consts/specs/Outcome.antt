@@ -5,8 +5,6 @@ use Rattle.mh_text.specs.declared.code.Code.{Code}
 use Rattle.mh_text.specs.declared.code.Code.TheVariants.{E5TooWide, E10KindClash}
 use Rattle.mh_text.specs.declared.refusal.Refusal.{Refusal}
 use Rattle.mh_text.specs.declared.refusal.Refusal.TheVariants as refusal
-use Rattle.mh_consts.specs.declared.fault.Fault.{Fault}
-use Rattle.mh_consts.specs.declared.fault.Fault.TheVariants as fault
 use Rattle.mh_consts.specs.declared.kinds.Const.{Const}
 use Rattle.mh_consts.specs.declared.kinds.Const.TheVariants as c
 
@@ -34,18 +32,6 @@ integer None = Err E5TooWide
 abbrev pub truth_value : Result Bool Code → Outcome
 truth_value (Ok b) = Ok (c.Truth b)
 truth_value (Err code) = Err code
-
--- the same where the fault isn't a refusal yet
-abbrev pub Gives : Outcome → Result Const Fault → Type 0
-Gives r (Ok v) = r ≡ Ok v
-Gives r (Err (fault.Broken code)) = r ≡ Err code
-Gives r (Err fault.Memory) = Unit {0}
-
--- the same of several values
-abbrev pub GivesAll : Result (List Const) Code → Result (List Const) Fault → Type 0
-GivesAll r (Ok vs) = r ≡ Ok vs
-GivesAll r (Err (fault.Broken code)) = r ≡ Err code
-GivesAll r (Err fault.Memory) = Unit {0}
 
 -- what a reference points to
 abbrev pub lent : {A : Type 0} → Result (Bor A) Code → Result A Code

@@ -45,7 +45,7 @@ fn is_positional(argument: &Argument) -> bool
 }
 
 /// Whether all arguments are given by position.
-fn all_positional(arguments: &[Argument]) -> bool
+pub fn all_positional(arguments: &[Argument]) -> bool
     ensures { result ≡ spec.all_positional (keys_of (map given_of arguments.now)) }
 {
     for argument in arguments {
@@ -58,7 +58,7 @@ fn all_positional(arguments: &[Argument]) -> bool
 
 /// The name of the argument at a place, if it has one.
 #[tactic(auto, using(crate::proofs::Keys::keys))]
-fn key_at(arguments: &[Argument], i: usize) -> Option<&Text>
+pub fn key_at(arguments: &[Argument], i: usize) -> Option<&Text>
     ensures { option_copied result ≡ spec.key_at (keys_of (map given_of arguments.now)) i }
 {
     match at(arguments, i) {

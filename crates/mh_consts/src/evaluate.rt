@@ -1,23 +1,25 @@
 // The value of an expression, and of its outermost operation.
 ghost use Rattle.std.specs.Prelude.{◌≡◌, [], ◌∷◌, ◌++◌, Ok, IfOk, is_some, map, option_copied};
+ghost use Rattle.mh_text.specs.Faults.{Gives};
 ghost use Rattle.mh_consts.specs.declared.kinds.Const.TheVariants as c;
 ghost use Rattle.mh_consts.specs.Expression.{ex_of, given_of, parts_of, exs};
 ghost use Rattle.mh_consts.specs.Expression as plain;
-ghost use Rattle.mh_consts.specs.Outcome.{Gives, GivesAll, Answers, lent};
+ghost use Rattle.mh_consts.specs.Outcome.{Answers, lent};
 ghost use Rattle.mh_consts.specs.Outcome as outcome;
 ghost use Rattle.mh_consts.specs.Constant as spec;
+ghost use Rattle.mh_consts.specs.Operators as operators;
+ghost use Rattle.mh_consts.specs.Places as places;
 ghost use Rattle.mh_consts.specs.Steps as steps;
 
 use crate::builtins::{called, form_of, read_signed};
-use crate::fault::Fault;
 use crate::kinds::{Builtin, Const};
 use crate::numbers::truth;
 use crate::operators::{negated, operated, signed};
 use crate::places::{attribute, indexed, is, resized_by, sliced, sliced_from};
 use crate::scope::Scope;
 use crate::shared::Shared;
-use mh_pytree::{Argument, Operator, PyExpr};
-use mh_text::{Code, Memory, Refusal, Text};
+use mh_pytree::{Argument, Operator, PyExpr, Sign};
+use mh_text::{Code, Fault, Memory, Refusal, Text};
 use sqlite_items::{Items, at};
 use std::alloc::Global;
 
@@ -105,8 +107,8 @@ pub fn attribute_in(e: &PyExpr) -> Option<&Text>
     }
 }
 
-/// Whether a call of an expression is that of a method.
-fn is_method(f: &PyExpr) -> bool
+/// Whether an expression is an attribute, brackets left out, so that a call of it is one of a method.
+pub fn is_method(f: &PyExpr) -> bool
     ensures { result ≡ is_some (plain.attribute_in (ex_of f.now)) }
 {
     attribute_in(f).is_some()
@@ -210,21 +212,66 @@ fn slice_from_at(s: &Scope, base: &PyExpr, parts: &[Const]) -> Result<Const, Cod
     }
 }
 
+/// What is refused by a rule alone, as what may want memory too.
+fn faulted(r: Result<Const, Code>) -> Result<Const, Fault<Code>>
+    ensures { Gives r result }
+{
+    match r {
+        Ok(v) => Ok(v),
+        Err(code) => Err(Fault::Broken(code)),
+    }
+}
+
+/// A tuple of the values of the parts.
+fn tuple_at(alloc: Global, parts: &[Const]) -> Result<Const, Fault<Code>>
+    ensures { Gives (Ok (c.Tuple parts.now)) result }
+{
+    Ok(tuple_of(alloc, copies(alloc, parts)?)?)
+}
+
+/// `not a` at the value of its part.
+fn negated_at(parts: &[Const]) -> Result<Const, Code>
+    ensures { result ≡ spec.with_one parts.now operators.negated }
+{
+    negated(part(parts, 0)?)
+}
+
+/// `-a`, `+a` or `~a` at the value of its part.
+fn signed_at(sign: Sign, parts: &[Const]) -> Result<Const, Code>
+    ensures { result ≡ spec.with_one parts.now (operators.signed sign) }
+{
+    signed(sign, part(parts, 0)?)
+}
+
+/// `a.name` at the value of its part.
+fn attribute_at(name: &Text, parts: &[Const]) -> Result<Const, Code>
+    ensures { result ≡ spec.with_one parts.now (places.attribute name.now) }
+{
+    attribute(name, part(parts, 0)?)
+}
+
+/// `base[i]` at the values of its parts.
+fn index_at(alloc: Global, s: &Scope, parts: &[Const]) -> Result<Const, Fault<Code>>
+    ensures { Gives (spec.with_two parts.now (places.indexed s.now)) result }
+{
+    indexed(alloc, s, part(parts, 0)?, part(parts, 1)?)
+}
+
 /// The outermost operation of an expression at the values of its parts.
 #[tactic(auto, using(crate::proofs::Forms::operations))]
-fn operate_at(alloc: Global, e: &PyExpr, parts: &[Const], s: &Scope) -> Result<Const, Fault>
+fn operate_at(alloc: Global, e: &PyExpr, parts: &[Const], s: &Scope) -> Result<Const, Fault<Code>>
     ensures { Gives (spec.operate s.now (ex_of e.now) parts.now) result }
 {
     match e {
         PyExpr::Group(a) => operate_at(alloc, a.get(), parts, s),
-        PyExpr::Bracketed(_) | PyExpr::Tuple(_) => Ok(tuple_of(alloc, copies(alloc, parts)?)?),
-        PyExpr::Not(_) => Ok(negated(part(parts, 0)?)?),
-        PyExpr::Unary(sign, _) => Ok(signed(*sign, part(parts, 0)?)?),
-        PyExpr::Binary(op, _, _) => Ok(between(*op, parts)?),
-        PyExpr::Attribute(_, name) => Ok(attribute(name, part(parts, 0)?)?),
-        PyExpr::Call(f, arguments) => Ok(call_at(s, f.get(), arguments.as_slice(), parts)?),
-        PyExpr::Index(_, _) => indexed(alloc, s, part(parts, 0)?, part(parts, 1)?),
-        PyExpr::Slice(base, _, lower) => Ok(slice_at(s, base.get(), lower.is_some(), parts)?),
+        PyExpr::Bracketed(_) | PyExpr::Tuple(_) => tuple_at(alloc, parts),
+        PyExpr::Not(_) => faulted(negated_at(parts)),
+        PyExpr::Unary(sign, _) => faulted(signed_at(*sign, parts)),
+        PyExpr::Binary(op, _, _) => faulted(between(*op, parts)),
+        PyExpr::Attribute(_, name) => faulted(attribute_at(name, parts)),
+        PyExpr::Call(f, arguments) => faulted(call_at(s, f.get(), arguments.as_slice(), parts)),
+        PyExpr::Index(_, _) => index_at(alloc, s, parts),
+        PyExpr::Slice(base, _, lower) => faulted(slice_at(s, base.get(), lower.is_some(), parts)),
         PyExpr::Whole(_) => Err(Fault::Broken(Code::E2NotElaborable)),
         PyExpr::Name(_)
         | PyExpr::Number(_)
@@ -251,7 +298,7 @@ fn slice_at(s: &Scope, base: &PyExpr, bounded: bool, parts: &[Const]) -> Result<
 }
 
 /// What a name is bound to.
-fn name_value(alloc: Global, s: &Scope, name: &Text) -> Result<Const, Fault>
+fn name_value(alloc: Global, s: &Scope, name: &Text) -> Result<Const, Fault<Code>>
     ensures { Gives (spec.name_value s.now name.now) result }
 {
     match s.find(name) {
@@ -261,15 +308,15 @@ fn name_value(alloc: Global, s: &Scope, name: &Text) -> Result<Const, Fault>
 }
 
 /// A string.
-fn text_value(alloc: Global, bytes: &Text) -> Result<Const, Fault>
+fn text_value(alloc: Global, bytes: &Text) -> Result<Const, Fault<Code>>
     ensures { Gives (Ok (c.Str bytes.now)) result }
 {
     Ok(Const::Str(bytes.copy(alloc)?))
 }
 
 /// One value as a list.
-fn listed(alloc: Global, v: Const) -> Result<Items<Const>, Fault>
-    ensures { GivesAll (Ok (v ∷ [])) result }
+fn listed(alloc: Global, v: Const) -> Result<Items<Const>, Fault<Code>>
+    ensures { Gives (Ok (v ∷ [])) result }
 {
     let mut items = Items::new(alloc);
     items.push(v)?;
@@ -277,8 +324,8 @@ fn listed(alloc: Global, v: Const) -> Result<Items<Const>, Fault>
 }
 
 /// A list with one value more.
-fn followed(items: Items<Const>, v: Const) -> Result<Items<Const>, Fault>
-    ensures { GivesAll (Ok (items ++ v ∷ [])) result }
+fn followed(items: Items<Const>, v: Const) -> Result<Items<Const>, Fault<Code>>
+    ensures { Gives (Ok (items ++ v ∷ [])) result }
 {
     let mut all = items;
     all.push(v)?;
@@ -291,16 +338,16 @@ fn call_value(
     f: &PyExpr,
     arguments: &[Argument],
     parts: &[Const],
-) -> Result<Const, Fault>
+) -> Result<Const, Fault<Code>>
     ensures { Gives (spec.called_at s.now (plain.attribute_in (ex_of f.now)) (plain.keys_of (map given_of arguments.now)) parts.now) result }
 {
-    Ok(call_at(s, f, arguments, parts)?)
+    faulted(call_at(s, f, arguments, parts))
 }
 
 /// The value of an expression.
 #[cycle(value)]
 #[tactic(auto, using(crate::proofs::Forms::evaluations))]
-fn value_at(alloc: Global, e: &PyExpr, s: &Scope) -> Result<Const, Fault>
+fn value_at(alloc: Global, e: &PyExpr, s: &Scope) -> Result<Const, Fault<Code>>
     ensures { Gives (spec.value s.now (ex_of e.now)) result }
 {
     match e {
@@ -344,7 +391,7 @@ fn value_at(alloc: Global, e: &PyExpr, s: &Scope) -> Result<Const, Fault>
 
 /// The value of an operation whose parts are all evaluated.
 #[cycle(value)]
-fn operation_at(alloc: Global, e: &PyExpr, s: &Scope) -> Result<Const, Fault>
+fn operation_at(alloc: Global, e: &PyExpr, s: &Scope) -> Result<Const, Fault<Code>>
     ensures { Gives (steps.operation s.now (ex_of e.now)) result }
 {
     let parts = parts_at(alloc, e, s)?;
@@ -354,8 +401,8 @@ fn operation_at(alloc: Global, e: &PyExpr, s: &Scope) -> Result<Const, Fault>
 /// The values of the parts of an operation, from left to right.
 #[cycle(value)]
 #[tactic(auto, using(crate::proofs::Forms::parts))]
-fn parts_at(alloc: Global, e: &PyExpr, s: &Scope) -> Result<Items<Const>, Fault>
-    ensures { GivesAll (steps.parts_values s.now (steps.all_parts (ex_of e.now))) result }
+fn parts_at(alloc: Global, e: &PyExpr, s: &Scope) -> Result<Items<Const>, Fault<Code>>
+    ensures { Gives (steps.parts_values s.now (steps.all_parts (ex_of e.now))) result }
 {
     match e {
         PyExpr::Group(a) => parts_at(alloc, a.get(), s),
@@ -393,8 +440,8 @@ fn parts_at(alloc: Global, e: &PyExpr, s: &Scope) -> Result<Items<Const>, Fault>
 /// The values of expressions, from left to right.
 #[cycle(value)]
 #[tactic(auto, using(crate::proofs::Rows::rows))]
-fn values(alloc: Global, xs: &[PyExpr], s: &Scope) -> Result<Items<Const>, Fault>
-    ensures { GivesAll (spec.values s.now (exs (map ex_of xs.now))) result }
+fn values(alloc: Global, xs: &[PyExpr], s: &Scope) -> Result<Items<Const>, Fault<Code>>
+    ensures { Gives (spec.values s.now (exs (map ex_of xs.now))) result }
 {
     let mut items = Items::new(alloc);
     for e in xs {
@@ -412,8 +459,8 @@ fn argument_values(
     xs: &[Argument],
     first: Items<Const>,
     s: &Scope,
-) -> Result<Items<Const>, Fault>
-    ensures { GivesAll (steps.onto first (spec.values s.now (parts_of (map given_of xs.now)))) result }
+) -> Result<Items<Const>, Fault<Code>>
+    ensures { Gives (steps.onto first (spec.values s.now (parts_of (map given_of xs.now)))) result }
 {
     let mut items = first;
     for argument in xs {
@@ -426,7 +473,7 @@ fn argument_values(
 /// The value of an argument.
 #[cycle(value)]
 #[tactic(auto, using(crate::proofs::Shapes::shapes))]
-fn argument_value(alloc: Global, argument: &Argument, s: &Scope) -> Result<Const, Fault>
+fn argument_value(alloc: Global, argument: &Argument, s: &Scope) -> Result<Const, Fault<Code>>
     ensures { Gives (spec.value s.now (plain.part_of (given_of argument.now))) result }
 {
     value_at(alloc, &argument.value, s)

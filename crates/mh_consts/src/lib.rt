@@ -5,7 +5,6 @@
 
 mod builtins;
 mod evaluate;
-mod fault;
 mod key;
 mod kinds;
 mod laws;
@@ -17,7 +16,8 @@ mod plain;
 mod scope;
 mod shared;
 
-pub use evaluate::{attribute_in, maker, name_in, operate, value};
+pub use builtins::{all_positional, key_at};
+pub use evaluate::{attribute_in, is_method, maker, name_in, operate, value};
 pub use kinds::{Builtin, Const, SignalKind};
 pub use laws::{binding_law, value_law};
 pub use names::Names;

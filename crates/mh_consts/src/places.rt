@@ -1,16 +1,15 @@
 // Attributes, indices and slices of constants.
 ghost use Rattle.std.specs.Prelude.{◌≡◌, ◌≤◌, bytes_eq, position, option_copied};
+ghost use Rattle.mh_text.specs.Faults.{Gives};
 ghost use Rattle.mh_consts.specs.declared.kinds.Const.{out-Const};
-ghost use Rattle.mh_consts.specs.Outcome.{Gives};
 ghost use Rattle.mh_consts.specs.Places as spec;
 
-use crate::fault::Fault;
 use crate::kinds::{Builtin, Const, SignalKind};
 use crate::numbers::operand;
 use crate::operators::{bits, integer};
 use crate::scope::Scope;
 use mh_num::{Bounds, add, bit, slice, width};
-use mh_text::{Code, Text};
+use mh_text::{Code, Fault, Text};
 use sqlite_items::Items;
 use std::alloc::Global;
 
@@ -125,7 +124,7 @@ pub fn place(n: usize, v: &Const) -> Result<usize, Code>
 }
 
 /// The item at a place.
-fn item_of(alloc: Global, items: &Items<Const>, at: &Const) -> Result<Const, Fault>
+fn item_of(alloc: Global, items: &Items<Const>, at: &Const) -> Result<Const, Fault<Code>>
     ensures { Gives (spec.item_of items.now at.now) result }
 {
     let i = place(items.len(), at)?;
@@ -145,7 +144,12 @@ fn bit_of(v: i128, b: &Bounds, at: &Const) -> Result<Const, Code>
 
 /// `base[at]`
 #[tactic(auto, using(crate::proofs::Values::values))]
-pub(crate) fn indexed(alloc: Global, s: &Scope, base: &Const, at: &Const) -> Result<Const, Fault>
+pub(crate) fn indexed(
+    alloc: Global,
+    s: &Scope,
+    base: &Const,
+    at: &Const,
+) -> Result<Const, Fault<Code>>
     ensures { Gives (spec.indexed s.now base.now at.now) result }
 {
     match base {

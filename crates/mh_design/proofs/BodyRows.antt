@@ -1,6 +1,6 @@
 -- Bodies and delta steps on worked examples, each by computing.
 use Rattle.std.proofs.Common.{ℕ, ℤ, pos, ◌≡◌, Bool, true, false, [], ◌∷◌, Option, None, Some, refl}
-use Rattle.mh_flat.specs.Flow as flow
+use Rattle.mh_flow.specs.Flow as flow
 use Rattle.mh_design.specs.declared.design.Design.{Design}
 use Rattle.mh_design.specs.declared.design.Generator.{Generator}
 use Rattle.mh_design.specs.declared.design.GenKind.{GenKind}

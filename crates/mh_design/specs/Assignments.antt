@@ -8,7 +8,7 @@ use Rattle.mh_codes.specs.Integers.{slice_of}
 use Rattle.mh_codes.specs.Ranges.{is_inside}
 use Rattle.mh_num.specs.Fit.{fit_of}
 use Rattle.mh_num.specs.declared.bounds.OutOfBounds.{OutOfBounds}
-use Rattle.mh_flat.specs.declared.lang.Lang.{Ghosts}
+use Rattle.mh_flow.specs.declared.lang.Lang.{Ghosts}
 use Rattle.mh_design.specs.declared.design.Design.{Design}
 use Rattle.mh_design.specs.declared.design.Encoding.{Encoding}
 use Rattle.mh_design.specs.declared.design.Encoding.TheVariants as encoding

@@ -6,7 +6,7 @@
 use Rattle.std.specs.Prelude.{ℕ, ℤ, pos, ◌+◌, Bool, true, false, ◌==◌, List, [], ◌∷◌, ◌++◌, length, map, max, slice_get, Option, None, Some}
 use Rattle.std.specs.List.{list_any, filter, range_with_len}
 use Rattle.std.specs.Option.{option_map_or}
-use Rattle.mh_flat.specs.Flow as flow
+use Rattle.mh_flow.specs.Flow as flow
 use Rattle.mh_design.specs.declared.design.Design.{Design}
 use Rattle.mh_design.specs.declared.design.Generator.{Generator}
 use Rattle.mh_design.specs.declared.design.GenKind.{GenKind}

@@ -2,15 +2,15 @@
 use Rattle.std.proofs.Common.{◌≡◌, ℕ, ◌+◌, ◌-◌, ◌<◌, ◌≤◌, ℤ, Bool, true, false, cond, List, [], ◌∷◌, length, Result, Ok, Err, refl, sym, ap, ◌∙◌, subst, arith, ◌⊎◌, inl, inr}
 use Rattle.std.specs.Prelude.{IsTrue}
 use Rattle.std.proofs.lemmas.List.{length-set}
-use Rattle.mh_flat.specs.declared.lang.Lang.{Ghosts}
-use Rattle.mh_flat.specs.declared.step.Resumed.{Resumed}
-use Rattle.mh_flat.specs.declared.step.Resumed.TheVariants.{Waits, Says, Stopped, Ended, CheckFailed, Fault, TurnLimit}
+use Rattle.mh_flow.specs.declared.lang.Lang.{Ghosts}
+use Rattle.mh_flow.specs.declared.resumed.Resumed.{Resumed}
+use Rattle.mh_flow.specs.declared.resumed.Resumed.TheVariants.{Waits, Says, Stopped, Ended, CheckFailed, Fault, TurnLimit}
 use Rattle.mh_flat.specs.declared.code.Position.{Position}
 use Rattle.mh_flat.specs.declared.code.Instruction.{Instruction}
 use Rattle.mh_flat.specs.declared.code.Counter.{Counter}
-use Rattle.mh_flat.specs.Words.{Keeps, Unless, keeps_same}
-use Rattle.mh_flat.specs.Flow as flow
-use Rattle.mh_flat.specs.Flow.{Statement, Block, Item, SetStatement, IfStatement, WhileStatement, CountStatement, WaitStatement, SayStatement, CheckStatement, StopStatement, BreakStatement, ContinueStatement, End, Then, Pending, BegunWhile, BegunCount, is_before, Outcome, Proceeds, rewriting, does_count}
+use Rattle.mh_flow.specs.Words.{Keeps, Unless, keeps_same}
+use Rattle.mh_flow.specs.Flow as flow
+use Rattle.mh_flow.specs.Flow.{Statement, Block, Item, SetStatement, IfStatement, WhileStatement, CountStatement, WaitStatement, SayStatement, CheckStatement, StopStatement, BreakStatement, ContinueStatement, End, Then, Pending, BegunWhile, BegunCount, is_before, Outcome, Proceeds, rewriting, does_count}
 use Rattle.mh_flat.specs.Machine as machine
 use Rattle.mh_flat.specs.Machine.{Action, Moves, Assigns, Enters, Turns, action_at, action_counts, Configuration}
 use Rattle.mh_flat.specs.Fits.{FitsItems}

@@ -2,7 +2,7 @@
 use Rattle.std.proofs.Common.{◌≡◌, ℕ, [], length, refl, sym, ap, ◌∙◌, subst}
 use Rattle.mh_flat.specs.declared.code.Code.{Code}
 use Rattle.mh_flat.specs.declared.code.State.{State}
-use Rattle.mh_flat.specs.Flow.{Block, End, Then, block_size, block_items}
+use Rattle.mh_flow.specs.Flow.{Block, End, Then, block_size, block_items}
 use Rattle.mh_flat.specs.Stands.{fresh, first, Does, end}
 use Rattle.mh_flat.specs.Flat.{Starts}
 use Rattle.mh_flat.proofs.Simulates.{does_block}

@@ -1,11 +1,11 @@
 -- A statement that holds others, by the list of those.
 use Rattle.std.proofs.Common.{◌≡◌, ◌+◌, ◌<◌, ◌≤◌, suc, max, arith, length, ℕ, List, [], ◌∷◌, ◌++◌, refl, ap, ◌∙◌, Vec, Global}
-use Rattle.mh_flat.specs.declared.lang.Lang.{Ghosts}
-use Rattle.mh_flat.specs.Flow.{Item, Pending, BegunWhile, BegunCount}
+use Rattle.mh_flow.specs.declared.lang.Lang.{Ghosts}
+use Rattle.mh_flow.specs.Flow.{Item, Pending, BegunWhile, BegunCount}
 use Rattle.mh_flat.specs.Fits.{FitsStatement, FitsBlock, FitsItems}
 use Rattle.mh_flat.specs.declared.step.Step.{Step}
 use Rattle.mh_flat.specs.declared.step.Step.TheVariants.{If, While, Count}
-use Rattle.mh_flat.specs.Flow.{Statement, Block, SetStatement, IfStatement, WhileStatement, CountStatement, WaitStatement, SayStatement, CheckStatement, StopStatement, BreakStatement, ContinueStatement, End, Then, size, block_size}
+use Rattle.mh_flow.specs.Flow.{Statement, Block, SetStatement, IfStatement, WhileStatement, CountStatement, WaitStatement, SayStatement, CheckStatement, StopStatement, BreakStatement, ContinueStatement, End, Then, size, block_size}
 use Rattle.mh_flat.specs.Flat.{nesting, block_nesting}
 use Rattle.mh_flat.specs.Body.{statement_of, block_of, statement_if, statement_while, statement_count}
 use Rattle.mh_flat.specs.declared.code.Position.{Position}

@@ -2,10 +2,10 @@
 use Rattle.std.proofs.Common.{◌≡◌, ℕ, ◌+◌, ◌-◌, ◌<◌, ◌≤◌, Bool, true, false, cond, List, [], ◌∷◌, refl, sym, ap, ◌∙◌, subst, arith, inl, inr}
 use Rattle.std.specs.Prelude.{Result, Ok, Err, nat_lt}
 use Rattle.std.proofs.lemmas.Bool.{ltb-true, lt-ltb}
-use Rattle.mh_flat.specs.declared.lang.Lang.{Ghosts}
-use Rattle.mh_flat.specs.declared.step.Resumed.{Resumed}
-use Rattle.mh_flat.specs.declared.step.Resumed.TheVariants.{Waits, Says, Stopped, Ended, CheckFailed, Fault, TurnLimit}
-use Rattle.mh_flat.specs.Flow.{Item, SetStatement, IfStatement, WhileStatement, CountStatement, WaitStatement, SayStatement, CheckStatement, StopStatement, BreakStatement, ContinueStatement, Pending, BegunWhile, BegunCount, Outcome, Proceeds, Halts, Fails, Ends, with_value, rewriting, does_count, Reaches, here, onward, Answers, FailsAt, Evaluates, IsNoMemory}
+use Rattle.mh_flow.specs.declared.lang.Lang.{Ghosts}
+use Rattle.mh_flow.specs.declared.resumed.Resumed.{Resumed}
+use Rattle.mh_flow.specs.declared.resumed.Resumed.TheVariants.{Waits, Says, Stopped, Ended, CheckFailed, Fault, TurnLimit}
+use Rattle.mh_flow.specs.Flow.{Item, SetStatement, IfStatement, WhileStatement, CountStatement, WaitStatement, SayStatement, CheckStatement, StopStatement, BreakStatement, ContinueStatement, Pending, BegunWhile, BegunCount, Outcome, Proceeds, Halts, Fails, Ends, with_value, rewriting, does_count, Reaches, here, onward, Answers, FailsAt, Evaluates, IsNoMemory}
 
 module _ {L E P V S F : Type 0} (l : Ghosts L E P V S F) (budget : ℕ) where
   -- the same rewritings, from the first on

@@ -13,7 +13,7 @@ use Rattle.mh_flat.proofs.Bodies.{first_empty, first_full}
 use Rattle.mh_flat.specs.declared.code.Position.{Position}
 use Rattle.mh_flat.specs.declared.code.Operation.TheVariants.{Branch, Repeat, Iterate}
 use Rattle.mh_flat.specs.declared.code.Instruction.{Instruction}
-use Rattle.mh_flat.specs.Flow.{Statement, Block, SetStatement, IfStatement, WhileStatement, CountStatement, WaitStatement, SayStatement, CheckStatement, StopStatement, BreakStatement, ContinueStatement, End, Then, size, block_size}
+use Rattle.mh_flow.specs.Flow.{Statement, Block, SetStatement, IfStatement, WhileStatement, CountStatement, WaitStatement, SayStatement, CheckStatement, StopStatement, BreakStatement, ContinueStatement, End, Then, size, block_size}
 use Rattle.mh_flat.specs.Stands.{fresh, begun, first, HasStatement, HasBlock}
 use Rattle.mh_flat.specs.Flat.{nesting, block_nesting, instruction, instructions_of, block_instructions, IsCodeOf}
 use Rattle.mh_flat.specs.declared.code.Code.{Code}

@@ -5,7 +5,7 @@ use Rattle.std.proofs.lemmas.List.{append-nil}
 use Rattle.mh_flat.specs.declared.code.Extent.{Extent}
 use Rattle.mh_flat.specs.declared.step.Step.{Step}
 use Rattle.mh_flat.specs.Body.{statement_of, block_of}
-use Rattle.mh_flat.specs.Flow.{Statement, Block, SetStatement, IfStatement, WhileStatement, CountStatement, WaitStatement, SayStatement, CheckStatement, StopStatement, BreakStatement, ContinueStatement, End, Then, size, block_size}
+use Rattle.mh_flow.specs.Flow.{Statement, Block, SetStatement, IfStatement, WhileStatement, CountStatement, WaitStatement, SayStatement, CheckStatement, StopStatement, BreakStatement, ContinueStatement, End, Then, size, block_size}
 use Rattle.mh_flat.specs.Extents.{HasAt, extent, front, inner_extents, block_extents, else_extents, extents_of}
 
 -- what stands behind a list, and a write there

@@ -2,15 +2,15 @@
 use Rattle.std.proofs.Common.{◌≡◌, ℕ, zero, suc, ◌+◌, ◌<◌, ◌≤◌, ℤ, ◌+ℤ◌, Bool, true, false, cond, List, [], ◌∷◌, length, Option, Some, None, Result, Ok, Err, refl, sym, ap, ◌∙◌, subst, arith, inr}
 use Rattle.std.specs.Prelude.{slice_get, slice_set, IsTrue}
 use Rattle.std.proofs.lemmas.Option.{slice_get_past}
-use Rattle.mh_flat.specs.declared.lang.Lang.{Ghosts}
-use Rattle.mh_flat.specs.declared.step.Resumed.TheVariants.{Waits, Says, Stopped, CheckFailed}
+use Rattle.mh_flow.specs.declared.lang.Lang.{Ghosts}
+use Rattle.mh_flow.specs.declared.resumed.Resumed.TheVariants.{Waits, Says, Stopped, CheckFailed}
 use Rattle.mh_flat.specs.declared.code.Position.{Position}
 use Rattle.mh_flat.specs.declared.code.Operation.{Operation}
 use Rattle.mh_flat.specs.declared.code.Operation.TheVariants.{Assign, Branch, Repeat, Iterate, Suspend, Report, Assert, Finish, Jump}
 use Rattle.mh_flat.specs.declared.code.Instruction.{Instruction}
 use Rattle.mh_flat.specs.declared.code.Counter.{Counter}
-use Rattle.mh_flat.specs.Flow as flow
-use Rattle.mh_flat.specs.Flow.{Statement, Block, Item, SetStatement, IfStatement, WhileStatement, CountStatement, WaitStatement, SayStatement, CheckStatement, StopStatement, BreakStatement, ContinueStatement, End, Then, Pending, BegunWhile, BegunCount, size, block_size, block_items, after_loop, from_loop, is_before, Outcome, Proceeds, rewriting, does_count}
+use Rattle.mh_flow.specs.Flow as flow
+use Rattle.mh_flow.specs.Flow.{Statement, Block, Item, SetStatement, IfStatement, WhileStatement, CountStatement, WaitStatement, SayStatement, CheckStatement, StopStatement, BreakStatement, ContinueStatement, End, Then, Pending, BegunWhile, BegunCount, size, block_size, block_items, after_loop, from_loop, is_before, Outcome, Proceeds, rewriting, does_count}
 use Rattle.mh_flat.specs.Machine as machine
 use Rattle.mh_flat.specs.Machine.{Action, Moves, Assigns, Enters, Turns, operation_action, action_at, action_counts, IsNext}
 use Rattle.mh_flat.specs.Fits.{FitsStatement, FitsItems}

@@ -1,16 +1,16 @@
 -- The turns of `resume`.
 use Rattle.std.proofs.Common.{◌^◌, ◌≡◌, ℕ, suc, ◌+◌, ◌-◌, ◌*◌, ◌<◌, ◌≤◌, List, length, refl, sym, ◌∙◌, subst, arith, ◌⊎◌, inl, inr}
 use Rattle.std.specs.Prelude.{slice_get}
-use Rattle.mh_flat.specs.declared.lang.Lang.{Ghosts}
-use Rattle.mh_flat.specs.declared.step.Resumed.{Resumed}
+use Rattle.mh_flow.specs.declared.lang.Lang.{Ghosts}
+use Rattle.mh_flow.specs.declared.resumed.Resumed.{Resumed}
 use Rattle.mh_flat.specs.declared.code.Code.{Code}
 use Rattle.mh_flat.specs.declared.code.State.{State}
 use Rattle.mh_flat.specs.declared.code.Instruction.{Instruction}
-use Rattle.mh_flat.specs.Flow.{Item, Reaches, onward, here}
+use Rattle.mh_flow.specs.Flow.{Item, Reaches, onward, here}
 use Rattle.mh_flat.specs.Machine as machine
 use Rattle.mh_flat.specs.Machine.{action_at, configuration_of, OnInstruction, FitsOperation, HasRoom}
 use Rattle.mh_flat.specs.Fits.{FitsItems}
-use Rattle.mh_flat.specs.Words.{Keeps, keeps_same, keeps_on}
+use Rattle.mh_flow.specs.Words.{Keeps, keeps_same, keeps_on}
 use Rattle.mh_flat.specs.Stands.{Stands, StandsFor, Resumes}
 use Rattle.mh_flat.proofs.Simulates.{rank, simulation, rank_room, instruction_fits, instruction_room}
 use Rattle.mh_flat.proofs.Advance.{Laws, Advanced, advanced, answered}

@@ -5,7 +5,7 @@ use Rattle.mh_flat.specs.declared.step.Step.TheBlock.{hidden-the_row-Step-0}
 use Rattle.mh_flat.specs.declared.step.Step.TheVariants.{If, While, Count}
 use Rattle.std.specs.Prelude.{◌≡◌, refl}
 use Rattle.std.proofs.Common.{ap, ◌∙◌, Vec, Global}
-use Rattle.mh_flat.specs.Flow.{Statement, Block, SetStatement, IfStatement, WhileStatement, CountStatement, WaitStatement, SayStatement, CheckStatement, StopStatement, BreakStatement, ContinueStatement, End, Then}
+use Rattle.mh_flow.specs.Flow.{Statement, Block, SetStatement, IfStatement, WhileStatement, CountStatement, WaitStatement, SayStatement, CheckStatement, StopStatement, BreakStatement, ContinueStatement, End, Then}
 
 abbrev mutual
   pub statement_of : {L E P V S F : Type 0} → Step L E P V S F → Statement E P

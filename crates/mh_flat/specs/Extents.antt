@@ -2,7 +2,7 @@
 -- code, once for the whole body.
 use Rattle.std.specs.Prelude.{ℕ, ◌+◌, ◌≡◌, List, [], ◌∷◌, ◌++◌, Some, slice_get}
 use Rattle.mh_flat.specs.declared.code.Extent.{Extent}
-use Rattle.mh_flat.specs.Flow.{Statement, Block, SetStatement, IfStatement, WhileStatement, CountStatement, WaitStatement, SayStatement, CheckStatement, StopStatement, BreakStatement, ContinueStatement, End, Then, size, block_size}
+use Rattle.mh_flow.specs.Flow.{Statement, Block, SetStatement, IfStatement, WhileStatement, CountStatement, WaitStatement, SayStatement, CheckStatement, StopStatement, BreakStatement, ContinueStatement, End, Then, size, block_size}
 
 -- The second list stands in the first from place k on.
 abbrev pub HasAt : {A : Type 0} → List A → ℕ → List A → Type 0

@@ -2,9 +2,9 @@
 -- fits where each of its expressions does, an assignment also asks that the place takes the expression's
 -- value, and a counted loop that its place takes numbers.
 use Rattle.std.specs.Prelude.{ℕ, ◌+◌, List, [], ◌∷◌}
-use Rattle.mh_flat.specs.Words.{Keeps}
-use Rattle.mh_flat.specs.declared.lang.Lang.{Ghosts}
-use Rattle.mh_flat.specs.Flow.{Statement, Block, Item, SetStatement, IfStatement, WhileStatement, CountStatement, WaitStatement, SayStatement, CheckStatement, StopStatement, BreakStatement, ContinueStatement, End, Then, Pending, BegunWhile, BegunCount, size, block_items, after_loop, from_loop}
+use Rattle.mh_flow.specs.Words.{Keeps}
+use Rattle.mh_flow.specs.declared.lang.Lang.{Ghosts}
+use Rattle.mh_flow.specs.Flow.{Statement, Block, Item, SetStatement, IfStatement, WhileStatement, CountStatement, WaitStatement, SayStatement, CheckStatement, StopStatement, BreakStatement, ContinueStatement, End, Then, Pending, BegunWhile, BegunCount, size, block_items, after_loop, from_loop}
 
 module _ {L E P V S F : Type 0} (l : Ghosts L E P V S F) where
   abbrev mutual

@@ -5,7 +5,7 @@ use Rattle.mh_flat.specs.declared.code.Operation.{Operation}
 use Rattle.mh_flat.specs.declared.code.Operation.TheVariants.{Assign, Branch, Repeat, Iterate, Suspend, Report, Assert, Finish, Jump}
 use Rattle.mh_flat.specs.declared.code.Instruction.{Instruction}
 use Rattle.mh_flat.specs.declared.code.Code.{Code}
-use Rattle.mh_flat.specs.Flow.{Statement, Block, SetStatement, IfStatement, WhileStatement, CountStatement, WaitStatement, SayStatement, CheckStatement, StopStatement, BreakStatement, ContinueStatement, End, Then, size, block_size, block_items}
+use Rattle.mh_flow.specs.Flow.{Statement, Block, SetStatement, IfStatement, WhileStatement, CountStatement, WaitStatement, SayStatement, CheckStatement, StopStatement, BreakStatement, ContinueStatement, End, Then, size, block_size, block_items}
 use Rattle.mh_flat.specs.declared.code.State.{State}
 use Rattle.mh_flat.specs.Stands.{begun, first, HasBlock, end, StandsFor}
 

@@ -1,5 +1,3 @@
-pub mod Words
-pub mod Flow
 pub mod Body
 pub mod Machine
 pub mod Fits

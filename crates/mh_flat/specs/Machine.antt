@@ -1,16 +1,16 @@
 -- What an instruction does at a position, as data: the small functions of `resume` say by it what they do.
 use Rattle.std.specs.Prelude.{ℕ, ℤ, ◌+◌, ◌<◌, ◌≤◌, ◌+ℤ◌, ◌-◌, Bool, true, false, List, ◌≡◌, Result, Ok, Err, cond, Option, Some, None, slice_get, slice_set, MatchOption}
-use Rattle.mh_flat.specs.declared.lang.Lang.{Ghosts}
-use Rattle.mh_flat.specs.declared.step.Resumed.{Resumed}
-use Rattle.mh_flat.specs.declared.step.Resumed.TheVariants.{Waits, Says, Stopped, Ended, CheckFailed, Fault, TurnLimit}
+use Rattle.mh_flow.specs.declared.lang.Lang.{Ghosts}
+use Rattle.mh_flow.specs.declared.resumed.Resumed.{Resumed}
+use Rattle.mh_flow.specs.declared.resumed.Resumed.TheVariants.{Waits, Says, Stopped, Ended, CheckFailed, Fault, TurnLimit}
 use Rattle.mh_flat.specs.declared.code.Position.{Position}
 use Rattle.mh_flat.specs.declared.code.Operation.{Operation}
 use Rattle.mh_flat.specs.declared.code.Operation.TheVariants.{Assign, Branch, Repeat, Iterate, Suspend, Report, Assert, Finish, Jump}
 use Rattle.mh_flat.specs.declared.code.Instruction.{Instruction}
 use Rattle.mh_flat.specs.declared.code.Counter.{Counter}
 use Rattle.mh_flat.specs.declared.code.State.{State}
-use Rattle.mh_flat.specs.Words.{Unless}
-use Rattle.mh_flat.specs.Flow.{is_before}
+use Rattle.mh_flow.specs.Words.{Unless}
+use Rattle.mh_flow.specs.Flow.{is_before}
 
 -- What an instruction does: it moves on, counting or not; it assigns a value; it enters a counted loop; it
 -- begins a turn of one; it halts with an answer; it fails with a fault; or there is none.

@@ -1,7 +1,7 @@
 -- A statement that was taken apart, seen as the statement.
 use Rattle.mh_flat.specs.declared.step.Parts.{Parts}
 use Rattle.mh_flat.specs.declared.step.Parts.TheVariants.{Set, If, While, Count, Wait, Say, Check, Stop, Break, Continue}
-use Rattle.mh_flat.specs.Flow.{Statement, SetStatement, IfStatement, WhileStatement, CountStatement, WaitStatement, SayStatement, CheckStatement, StopStatement, BreakStatement, ContinueStatement}
+use Rattle.mh_flow.specs.Flow.{Statement, SetStatement, IfStatement, WhileStatement, CountStatement, WaitStatement, SayStatement, CheckStatement, StopStatement, BreakStatement, ContinueStatement}
 use Rattle.mh_flat.specs.Body.{block_of}
 
 abbrev pub statement_of_parts : {L E P V S F : Type 0} → Parts L E P V S F → Statement E P

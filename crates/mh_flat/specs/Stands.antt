@@ -1,6 +1,6 @@
 -- Which items a state of the code stands for: this project's own rule, by recursion on the items.
 use Rattle.std.specs.Prelude.{ℕ, ℤ, suc, ◌+◌, ◌<◌, ◌^◌, true, false, List, [], ◌∷◌, ◌≡◌, Option, Some, slice_get, length}
-use Rattle.mh_flat.specs.declared.lang.Lang.{Ghosts}
+use Rattle.mh_flow.specs.declared.lang.Lang.{Ghosts}
 use Rattle.mh_flat.specs.declared.code.Position.{Position}
 use Rattle.mh_flat.specs.declared.code.Operation.{Operation}
 use Rattle.mh_flat.specs.declared.code.Operation.TheVariants.{Assign, Branch, Repeat, Iterate, Suspend, Report, Assert, Finish, Jump}
@@ -8,10 +8,10 @@ use Rattle.mh_flat.specs.declared.code.Instruction.{Instruction}
 use Rattle.mh_flat.specs.declared.code.Code.{Code}
 use Rattle.mh_flat.specs.declared.code.Counter.{Counter}
 use Rattle.mh_flat.specs.declared.code.State.{State}
-use Rattle.mh_flat.specs.Flow.{Statement, Block, Item, SetStatement, IfStatement, WhileStatement, CountStatement, WaitStatement, SayStatement, CheckStatement, StopStatement, BreakStatement, ContinueStatement, End, Then, Pending, BegunWhile, BegunCount, size, block_size, Evaluates}
+use Rattle.mh_flow.specs.Flow.{Statement, Block, Item, SetStatement, IfStatement, WhileStatement, CountStatement, WaitStatement, SayStatement, CheckStatement, StopStatement, BreakStatement, ContinueStatement, End, Then, Pending, BegunWhile, BegunCount, size, block_size, Evaluates}
 use Rattle.mh_flat.specs.Fits.{FitsItems}
-use Rattle.mh_flat.specs.Words.{Keeps}
-use Rattle.mh_flat.specs.declared.step.Resumed.{Resumed}
+use Rattle.mh_flow.specs.Words.{Keeps}
+use Rattle.mh_flow.specs.declared.resumed.Resumed.{Resumed}
 use Rattle.mh_flat.specs.Machine.{IsNext}
 
 -- The position of the statement at place k, and that of the loop there that has begun.

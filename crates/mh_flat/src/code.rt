@@ -1,4 +1,4 @@
-use crate::lang::Lang;
+use mh_flow::Lang;
 
 /// A position in the code: the statement there, or the loop there once it has begun.
 #[derive(Clone, Copy)]

@@ -1,5 +1,5 @@
 ghost use Rattle.std.specs.Prelude.{◌≡◌, ℕ, ◌+◌, ◌-◌, ◌<◌, ◌≤◌, ◌^◌, max, List, [], ◌∷◌, ◌++◌, length, IfOk, OnOk, MatchOption, cond, false, take, drop, slice_get, slice_set, Some};
-ghost use Rattle.mh_flat.specs.Flow.{Block, size, block_size};
+ghost use Rattle.mh_flow.specs.Flow.{Block, size, block_size};
 ghost use Rattle.mh_flat.specs.Body.{statement_of, block_of};
 ghost use Rattle.mh_flat.specs.Stands.{first};
 ghost use Rattle.mh_flat.specs.Flat.{nesting, block_nesting, instructions_of, block_instructions, IsCodeOf};
@@ -7,8 +7,8 @@ ghost use Rattle.mh_flat.specs.Extents.{HasAt, extent, extents_of, block_extents
 ghost use Rattle.mh_flat.specs.Parts.{statement_of_parts, IsNoIf};
 
 use crate::code::{Code, Exits, Extent, Instruction, Operation, Position};
-use crate::lang::Lang;
 use crate::step::{Parts, Step};
+use mh_flow::Lang;
 use mh_text::Memory;
 use std::alloc::Global;
 

@@ -1,8 +1,8 @@
 ghost use Rattle.std.specs.Prelude.{◌≡◌, ℕ, List};
-ghost use Rattle.mh_flat.specs.declared.step.Resumed.{Resumed};
-ghost use Rattle.mh_flat.specs.Flow.{Item, Evaluates, HasEvaluation, IsNoMemory};
+ghost use Rattle.mh_flow.specs.declared.resumed.Resumed.{Resumed};
+ghost use Rattle.mh_flow.specs.Flow.{Item, Evaluates, HasEvaluation, IsNoMemory};
 
-use crate::lang::Lang;
+use mh_flow::Lang;
 
 /// A law over the definitions alone: want of memory aside, an evaluation of what is left has one
 /// answer, and leaves one list, one store and one count. Does nothing.

@@ -1,13 +1,12 @@
 ghost use Rattle.std.specs.Prelude.{◌≡◌, ℕ, ℤ, ◌+◌, ◌<◌, ◌≤◌, ◌^◌, ◌+ℤ◌, ◌↔◌, true, false, IsTrue, List, Option, MatchOption, IfOk, length, slice_get};
-ghost use Rattle.mh_flat.specs.Flow.{Block, Item, is_before};
+ghost use Rattle.mh_flow.specs.Flow.{Block, Item, is_before};
 ghost use Rattle.mh_flat.specs.Machine.{action_at, operation_action, action_counts, IsNext, counter_turn, number_turn, number_before, operation_counts, OnInstruction, Does, FitsOperation, HasRoom, configuration_of};
 ghost use Rattle.mh_flat.specs.Fits.{FitsItems};
 ghost use Rattle.mh_flat.specs.Stands.{StandsFor, Resumes};
 ghost use Rattle.mh_flat.specs.Flat.{IsCodeOf, Starts};
 
 use crate::code::{Code, Counter, Instruction, Operation, Position, State};
-use crate::lang::Lang;
-use crate::step::Resumed;
+use mh_flow::{Lang, Resumed};
 use mh_text::Memory;
 use std::alloc::Global;
 

@@ -1,4 +1,4 @@
-use crate::lang::Lang;
+use mh_flow::Lang;
 
 /// A statement of a body, over the expressions and places of a language. Statements may hold others,
 /// at most 2,000 deep; an `else` part of exactly one statement adds no depth.
@@ -89,25 +89,4 @@ impl<L: Lang> Step<L> {
             Step::Continue => Parts::Continue,
         }
     }
-}
-
-/// Why `resume` has stopped. After `Waits`, `Says`, `Stopped` and `CheckFailed` the statement that
-/// was met is taken away; after `Fault` and `TurnLimit` it is still the first of what is left.
-#[derive(Drop)]
-pub enum Resumed<F> {
-    /// A `Wait`, with its number. The count of executed statements is set back to 0.
-    Waits(u32),
-    /// A `Say`, with its number. The count goes on.
-    Says(u32),
-    /// A `Stop`.
-    Stopped,
-    /// Nothing is left.
-    Ended,
-    /// A `Check` whose expression is not true, with its place in order of text, from 0, where a
-    /// statement stands before those that it holds.
-    CheckFailed(u32),
-    /// A fault of the language, with the place of the statement in order of text.
-    Fault(u32, F),
-    /// The count has reached the budget, and another statement that counts comes.
-    TurnLimit,
 }

@@ -7,7 +7,7 @@ use Rattle.std.proofs.lemmas.Bool.{lt-ltb, ltb-true}
 use Rattle.std.proofs.lemmas.List.{length-map}
 use Rattle.std.proofs.lemmas.Option.{slice_get_within}
 use Rattle.std.proofs.lemmas.List.Folds.{list_all-append}
-use Rattle.mh_flat.specs.Flow as flow
+use Rattle.mh_flow.specs.Flow as flow
 use Rattle.mh_flat.specs.Fits.{FitsBlock, FitsItems, fits_todo}
 use Rattle.mh_design.specs.declared.design.Design.{Design}
 use Rattle.mh_design.specs.declared.design.EnumDecl.{EnumDecl}

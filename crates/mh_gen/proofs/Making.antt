@@ -1,7 +1,7 @@
 -- Bodies that are made statement by statement.
 use Rattle.std.proofs.Common.{ℕ, ℤ, zero, suc, Bool, ◌+◌, ◌<◌, ◌≤◌, ◌≡◌, List, [], ◌∷◌, ◌++◌, map, length, drop, get_or, Result, IfOk, refl, ap, sym, subst, ◌∙◌, arith, length-append}
 use Rattle.std.proofs.lemmas.List.{drop_more, drop_all}
-use Rattle.mh_flat.specs.Flow as flow
+use Rattle.mh_flow.specs.Flow as flow
 use Rattle.mh_flat.specs.Body.{block_of, statement_of as flowing_step}
 use Rattle.mh_design.specs.declared.statement.Branch.{Branch, out-Branch}
 use Rattle.mh_design.specs.declared.expression.GExpr.{GExpr}

@@ -4,7 +4,7 @@ use Rattle.std.proofs.Common.{subst, sym, ◌∙◌, refl}
 use Rattle.std.proofs.lemmas.List.{length-set}
 use Rattle.mh_codes.specs.Ranges.{is_inside}
 use Rattle.mh_num.specs.declared.bounds.OutOfBounds.{OutOfBounds}
-use Rattle.mh_flat.specs.Words.{Keeps}
+use Rattle.mh_flow.specs.Words.{Keeps}
 use Rattle.mh_design.specs.declared.statement.Binding.{Binding}
 use Rattle.mh_design.specs.declared.statement.Binding.TheVariants as binding
 use Rattle.mh_design.specs.Tree.{Expression, LeftSide, Whole, LeftBit, LeftSlice, Bind}
@@ -23,11 +23,15 @@ pub record Alike (s t : Store) : Type 0 where
 
 named_alike : (e : Expression) (s t : Store) → Alike s t → FitsExpression e s → FitsExpression e t
 named_alike e s t a h =
-    subst (λ d. IsTrue (is_named d (length t.signals.values) (length t.locals) e)) (sym a.design) (subst (λ n. IsTrue (is_named s.design n (length t.locals) e)) (sym a.values) (subst (λ m. IsTrue (is_named s.design (length s.signals.values) m e)) (sym a.locals) h))
+    subst (λ d. IsTrue (is_named d (length t.signals.values) (length t.locals) e)) (sym a.design) (subst (λ n. IsTrue (is_named s.design n
+    (length t.locals) e)) (sym a.values) (subst (λ m. IsTrue (is_named s.design (length s.signals.values) m e)) (sym a.locals) h))
 
 left_alike : (p : LeftSide) (s t : Store) → Alike s t → FitsLeft p s → FitsLeft p t
-left_alike p s t a h =
-    (subst (λ d. IsTrue (left_is_named d (length t.signals.values) (length t.locals) p)) (sym a.design) (subst (λ n. IsTrue (left_is_named s.design n (length t.locals) p)) (sym a.values) (subst (λ m. IsTrue (left_is_named s.design (length s.signals.values) m p)) (sym a.locals) h.0)), a.even h.1)
+left_alike p s t a h = (
+  subst (λ d. IsTrue (left_is_named d (length t.signals.values) (length t.locals) p)) (sym a.design) (subst (λ n. IsTrue (left_is_named s.design n
+      (length t.locals) p)) (sym a.values) (subst (λ m. IsTrue (left_is_named s.design (length s.signals.values) m p)) (sym a.locals) h.0)),
+  a.even h.1,
+)
 
 pub keeps : (s t : Store) → Alike s t → Keeps FitsExpression FitsSet FitsLeft s t
 keeps s t a =

@@ -1,7 +1,7 @@
 -- How the statements of a body are made.
 use Rattle.std.specs.Prelude.{ℕ, ℤ, ◌+◌, ◌≡◌, List, [], ◌∷◌, Option, None, Some}
 use Rattle.mh_flat.specs.declared.step.Step.{Step}
-use Rattle.mh_flat.specs.Flow.{IfStatement, block_size}
+use Rattle.mh_flow.specs.Flow.{IfStatement, block_size}
 use Rattle.mh_flat.specs.Body.{block_of}
 use Rattle.mh_design.specs.declared.design.Design.{Design}
 use Rattle.mh_design.specs.declared.design.Generator.{Generator}

@@ -3,7 +3,7 @@ ghost use Rattle.std.specs.Prelude.{◌≡◌, ◌<◌, ◌^◌, ℕ, ◌==◌, 
 ghost use Rattle.std.specs.List.{list_any};
 ghost use Rattle.std.specs.Ordering.{nat_cmp};
 ghost use Rattle.std.specs.BTreeSet.{contains};
-ghost use Rattle.mh_flat.specs.Flow as flow;
+ghost use Rattle.mh_flow.specs.Flow as flow;
 ghost use Rattle.mh_flat.specs.Body.{block_of, statement_of as flowing_step};
 ghost use Rattle.mh_flat.specs.Flat.{IsCodeOf};
 ghost use Rattle.mh_design.specs.declared.design.Generator.{Generator as Seen};

@@ -1,6 +1,6 @@
 // The statements of bodies as statements of flow.
 ghost use Rattle.std.specs.Prelude.{◌≡◌, ◌+◌, map, IfOk, OnOk};
-ghost use Rattle.mh_flat.specs.Flow as flow;
+ghost use Rattle.mh_flow.specs.Flow as flow;
 ghost use Rattle.mh_flat.specs.Body.{statement_of as flowing_step, block_of};
 ghost use Rattle.mh_design.specs.Tree.{expression_of, left_of, statement_of, arm_of, block, arms};
 ghost use Rattle.mh_design.specs.Tree as tree;

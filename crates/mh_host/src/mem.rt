@@ -1,8 +1,8 @@
-ghost use Rattle.std.specs.Prelude.{◌≡◌, ◌++◌, ◌∷◌, [], ℕ, List, true, is_ok, OnOk, OnErr};
+ghost use Rattle.std.specs.Prelude.{◌≡◌, ◌+◌, ◌-◌, ◌^◌, ◌||◌, Some, ◌++◌, ◌∷◌, [], ℕ, List, true, min, is_ok, is_err, is_none, is_some, IfOk, OnOk, OnErr};
 ghost use Rattle.std.specs.Option.{option_copied};
 ghost use Rattle.mh_host.specs.Entries.{Puts, MayPutFront};
-ghost use Rattle.mh_host.specs.MemShelf.{told_by, counted_by, failing};
-ghost use Rattle.mh_host.specs.Shelf.{Appends, no_faults, Stores};
+ghost use Rattle.mh_host.specs.MemShelf.{told_by, calls_made, counted_by, due, failing, fault_at, Called};
+ghost use Rattle.mh_host.specs.Shelf.{is_failed, no_faults, Appends, Complains, Counted, Finds, Prints, Stores, Told};
 
 use crate::count::raise;
 use crate::entries::{Entry, find, place};
@@ -38,10 +38,25 @@ pub struct MemShelf {
 }
 
 /// The fault that the call made now is to answer, if it is to fail. Counts the call.
-fn due(calls: &mut u64, to_fail: &[Fault]) -> Option<Fault> {
+fn take_due(calls: &mut u64, to_fail: &[Fault]) -> Option<Fault>
+    ensures fault { result ≡ fault_at to_fail.now calls.old }
+    ensures counted { calls.new ≡ min (calls.old + 1) (2 ^ 64 - 1) }
+{
     let call = *calls;
     *calls = calls.saturating_add(1);
-    to_fail.iter().copied().find(|fault| fault.call == call)
+    fault_for(to_fail, call)
+}
+
+/// The first fault that is meant for this call.
+fn fault_for(to_fail: &[Fault], call: u64) -> Option<Fault>
+    ensures { result ≡ fault_at to_fail.now call }
+{
+    for fault in to_fail {
+        if fault.call == call {
+            return Some(*fault);
+        }
+    }
+    None
 }
 
 /// Puts bytes under a name.
@@ -66,6 +81,7 @@ fn store_in(
 ) -> Result<(), Failed>
     ensures ok { OnOk result (Puts files.old.items name.now bytes.now files.new.items) }
     ensures err { OnErr result (MayPutFront files.old.items name.now bytes.now files.new.items) }
+    ensures fails { is_some fault ≡ true → is_err result ≡ true }
 {
     match fault {
         None => put(alloc, files, name, bytes).map_err(|_| Failed),
@@ -80,7 +96,8 @@ fn store_in(
 
 /// Appends bytes; where the call is to fail, as many of them as it takes.
 fn append_to(output: &mut Vec<u8>, bytes: &[u8], fault: Option<Fault>) -> Result<(), Failed>
-    ensures { Appends (is_ok result) bytes.now output.old.items output.new.items }
+    ensures appends { Appends (is_ok result) bytes.now output.old.items output.new.items }
+    ensures fails { is_some fault ≡ true → is_err result ≡ true }
 {
     match fault {
         None => output.extend_from_slice(bytes).map_err(|_| Failed),
@@ -100,6 +117,7 @@ impl MemShelf {
         ensures complained { (told_by result).complained ≡ [] }
         ensures counts { counted_by result ≡ no_faults }
         ensures failing { failing result ≡ [] }
+        ensures calls { calls_made result ≡ 0 }
     {
         MemShelf {
             alloc,
@@ -120,16 +138,19 @@ impl MemShelf {
         ensures ok { OnOk result (Stores true name.now bytes.now (told_by self.old) (told_by self.new)) }
         ensures err { OnErr result (told_by self.new ≡ told_by self.old) }
         ensures counts { counted_by self.new ≡ counted_by self.old }
+        ensures failing { failing self.new ≡ failing self.old }
+        ensures calls { calls_made self.new ≡ calls_made self.old }
     {
         put(self.alloc, &mut self.files, name, bytes)
     }
 
-    /// Lets one more call fail.
+    /// Lets one more call fail. The call whose number is that of `calls_made` then answers a fault.
     pub fn fail(&mut self, fault: Fault) -> Result<(), Memory>
         ensures ok { OnOk result (failing self.new ≡ failing self.old ++ fault ∷ []) }
         ensures err { OnErr result (failing self.new ≡ failing self.old) }
         ensures seen { told_by self.new ≡ told_by self.old }
         ensures counts { counted_by self.new ≡ counted_by self.old }
+        ensures calls { calls_made self.new ≡ calls_made self.old }
     {
         self.to_fail.push(fault)?;
         Ok(())
@@ -169,14 +190,17 @@ impl Shelf for MemShelf {
 
     ghost may_store = { λ _. Unit {0} };
 
-    fn fetch(
-        &mut self,
-        name: &Text,
-        limit: u64,
-        into: &mut Vec<u8>,
-    ) -> Result<Fetched, ShelfError> {
+    fn fetch(&mut self, name: &Text, limit: u64, into: &mut Vec<u8>) -> Result<Fetched, ShelfError>
+        ensures found { IfOk result (λ found. Finds found (Some (told_by self.old)) name.now limit into.new.items) }
+        ensures err { OnErr result (into.new.items ≡ []) }
+        ensures seen { told_by self.new ≡ told_by self.old }
+        ensures count { Counted (is_failed result) (counted_by self.old).fetch (counted_by self.new).fetch }
+        ensures others { counted_by self.new ≡ record (counted_by self.old) { fetch = (counted_by self.new).fetch } }
+        ensures called { Called self.old self.new }
+        ensures fails { is_failed result ≡ is_some (due self.old) || is_none ((told_by self.old).holds name.now) }
+    {
         into.clear();
-        let fault = due(&mut self.calls, self.to_fail.as_slice());
+        let fault = take_due(&mut self.calls, self.to_fail.as_slice());
         let held = find(self.files.as_slice(), name.bytes());
         match (held, fault) {
             (Some(bytes), None) => {
@@ -189,8 +213,14 @@ impl Shelf for MemShelf {
         }
     }
 
-    fn store(&mut self, name: &Text, bytes: &[u8]) -> Result<(), Failed> {
-        let fault = due(&mut self.calls, self.to_fail.as_slice());
+    fn store(&mut self, name: &Text, bytes: &[u8]) -> Result<(), Failed>
+        ensures seen { Told (Stores (is_ok result) name.now bytes.now) (Some (told_by self.old)) (Some (told_by self.new)) }
+        ensures count { Counted (is_err result) (counted_by self.old).store (counted_by self.new).store }
+        ensures others { counted_by self.new ≡ record (counted_by self.old) { store = (counted_by self.new).store } }
+        ensures called { Called self.old self.new }
+        ensures fails { is_some (due self.old) ≡ true → is_err result ≡ true }
+    {
+        let fault = take_due(&mut self.calls, self.to_fail.as_slice());
         let stored = store_in(self.alloc, &mut self.files, name.bytes(), bytes, fault);
         if stored.is_err() {
             raise(&mut self.store_faults);
@@ -198,8 +228,14 @@ impl Shelf for MemShelf {
         stored
     }
 
-    fn print(&mut self, bytes: &[u8]) -> Result<(), Failed> {
-        let fault = due(&mut self.calls, self.to_fail.as_slice());
+    fn print(&mut self, bytes: &[u8]) -> Result<(), Failed>
+        ensures seen { Told (Prints (is_ok result) bytes.now) (Some (told_by self.old)) (Some (told_by self.new)) }
+        ensures count { Counted (is_err result) (counted_by self.old).print (counted_by self.new).print }
+        ensures others { counted_by self.new ≡ record (counted_by self.old) { print = (counted_by self.new).print } }
+        ensures called { Called self.old self.new }
+        ensures fails { is_some (due self.old) ≡ true → is_err result ≡ true }
+    {
+        let fault = take_due(&mut self.calls, self.to_fail.as_slice());
         let printed = append_to(&mut self.printed, bytes, fault);
         if printed.is_err() {
             raise(&mut self.print_faults);
@@ -207,8 +243,14 @@ impl Shelf for MemShelf {
         printed
     }
 
-    fn complain(&mut self, bytes: &[u8]) -> Result<(), Failed> {
-        let fault = due(&mut self.calls, self.to_fail.as_slice());
+    fn complain(&mut self, bytes: &[u8]) -> Result<(), Failed>
+        ensures seen { Told (Complains (is_ok result) bytes.now) (Some (told_by self.old)) (Some (told_by self.new)) }
+        ensures count { Counted (is_err result) (counted_by self.old).complain (counted_by self.new).complain }
+        ensures others { counted_by self.new ≡ record (counted_by self.old) { complain = (counted_by self.new).complain } }
+        ensures called { Called self.old self.new }
+        ensures fails { is_some (due self.old) ≡ true → is_err result ≡ true }
+    {
+        let fault = take_due(&mut self.calls, self.to_fail.as_slice());
         let complained = append_to(&mut self.complained, bytes, fault);
         if complained.is_err() {
             raise(&mut self.complain_faults);

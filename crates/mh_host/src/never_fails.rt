@@ -1,5 +1,6 @@
-ghost use Rattle.std.specs.Prelude.{◌≡◌, IfOk};
+ghost use Rattle.std.specs.Prelude.{◌≡◌, [], false, true, is_ok, IfOk, OnErr};
 ghost use Rattle.mh_host.specs.OtherShelves.{bytes_given};
+ghost use Rattle.mh_host.specs.Shelf.{is_failed, IsPortion, IsWithin};
 
 use crate::portion::copy_portion;
 use crate::shelf::{Failed, Fetched, Shelf, ShelfError};
@@ -36,24 +37,34 @@ impl Shelf for NeverFails {
 
     ghost may_store = { λ _. Unit {0} };
 
-    fn fetch(
-        &mut self,
-        _name: &Text,
-        limit: u64,
-        into: &mut Vec<u8>,
-    ) -> Result<Fetched, ShelfError> {
+    fn fetch(&mut self, _name: &Text, limit: u64, into: &mut Vec<u8>) -> Result<Fetched, ShelfError>
+        ensures portion { IfOk result (λ found. IsPortion found (bytes_given self.old) limit into.new.items) }
+        ensures found { IfOk result (λ found. IsWithin found limit into.new.items) }
+        ensures err { OnErr result (into.new.items ≡ []) }
+        ensures memory { is_failed result ≡ false }
+        ensures stays { bytes_given self.new ≡ bytes_given self.old }
+    {
         copy_portion(self.bytes.bytes(), limit, into).map_err(|_| ShelfError::Memory)
     }
 
-    fn store(&mut self, _name: &Text, _bytes: &[u8]) -> Result<(), Failed> {
+    fn store(&mut self, _name: &Text, _bytes: &[u8]) -> Result<(), Failed>
+        ensures done { is_ok result ≡ true }
+        ensures stays { bytes_given self.new ≡ bytes_given self.old }
+    {
         Ok(())
     }
 
-    fn print(&mut self, _bytes: &[u8]) -> Result<(), Failed> {
+    fn print(&mut self, _bytes: &[u8]) -> Result<(), Failed>
+        ensures done { is_ok result ≡ true }
+        ensures stays { bytes_given self.new ≡ bytes_given self.old }
+    {
         Ok(())
     }
 
-    fn complain(&mut self, _bytes: &[u8]) -> Result<(), Failed> {
+    fn complain(&mut self, _bytes: &[u8]) -> Result<(), Failed>
+        ensures done { is_ok result ≡ true }
+        ensures stays { bytes_given self.new ≡ bytes_given self.old }
+    {
         Ok(())
     }
 }

@@ -2,6 +2,7 @@
 -- one at which a text is refused.
 use Rattle.std.proofs.Common.{◌≡◌, ℕ, List, [], ◌∷◌, refl, Ok, Err, Some, None, codes}
 use Rattle.mh_reader.specs.Reader.{chain, after, expect, want, nothing, whole, turns, many}
+use Rattle.mh_pytok.specs.Words as row
 use Rattle.mh_pytok.specs.Lexeme.{Lexeme}
 use Rattle.mh_pytok.specs.declared.token.Tok.{Tok}
 use Rattle.mh_pytok.specs.declared.token.Tok.TheVariants.{Name, Newline, Indent, Dedent, End, Sign, Keyword}
@@ -44,7 +45,7 @@ read1 :
     (q.text 3 (on 1 (Sign 31) ∷ on 1 (Sign 32) ∷ on 1 (Sign 36) ∷ on 1 (Sign 31) ∷ named 1 (codes "a") ∷ on 1 (Sign 32) ∷ on 1 (Sign 36) ∷ on 1 (Sign 31) ∷ named 1 (codes "a") ∷ on 1 (Sign 33) ∷ on 1 (Sign 32) ∷ on 1 (Sign 36) ∷ on 1 (Sign 31) ∷ named 1 (codes "a") ∷ on 1 (Keyword 18) ∷ named 1 (codes "x") ∷ on 1 (Keyword 23) ∷ named 1 (codes "r") ∷ on 1 (Sign 32) ∷ on 1 (Sign 36) ∷ on 1 Newline ∷ on 1 End ∷ []) ≡ Ok (((s.Value 1 (e.List []) ∷ s.Value 1 (e.List ((e.Name (codes "a")) ∷ [])) ∷ s.Value 1 (e.List ((e.Name (codes "a")) ∷ [])) ∷ s.Value 1 (e.Comprehension (e.Name (codes "a")) (codes "x") (e.Name (codes "r"))) ∷ []), 3), [])) ×
     -- a[i]; a[i:]; a[i:b]; a[:]
     (q.text 3 (named 1 (codes "a") ∷ on 1 (Sign 31) ∷ named 1 (codes "i") ∷ on 1 (Sign 32) ∷ on 1 (Sign 36) ∷ named 1 (codes "a") ∷ on 1 (Sign 31) ∷ named 1 (codes "i") ∷ on 1 (Sign 34) ∷ on 1 (Sign 32) ∷ on 1 (Sign 36) ∷ named 1 (codes "a") ∷ on 1 (Sign 31) ∷ named 1 (codes "i") ∷ on 1 (Sign 34) ∷ named 1 (codes "b") ∷ on 1 (Sign 32) ∷ on 1 (Sign 36) ∷ named 1 (codes "a") ∷ on 1 (Sign 31) ∷ on 1 (Sign 34) ∷ on 1 (Sign 32) ∷ on 1 Newline ∷ on 1 End ∷ []) ≡ Ok (((s.Value 1 (e.Index (e.Name (codes "a")) (e.Name (codes "i"))) ∷ s.Value 1 (e.Slice (e.Name (codes "a")) (e.Name (codes "i")) None) ∷ s.Value 1 (e.Slice (e.Name (codes "a")) (e.Name (codes "i")) (Some (e.Name (codes "b")))) ∷ s.Value 1 (e.Whole (e.Name (codes "a"))) ∷ []), 3), []))
-unfolding r.is r.text_if r.leaf_of q.is_module X.out-PyExpr denote.Hole.Carrier.out chain after expect want nothing whole turns many o.infix_sign o.infix_word o.prefix_of o.augment_sign o.begins_sign o.begins_word r.word_leaf r.leaf r.admits r.closing r.items_turn r.items r.bracketed r.round r.comprehension r.list r.square r.operand r.prefix r.arguments_turn r.sliced r.indexed r.apply r.applied r.operate_turn r.operate r.whole r.tuple_turn r.tuple r.expr r.exprs q.names_turn q.bracketed_names_turn q.imported_names q.imported q.augmented q.valued q.expressed q.returned q.yielded q.raised q.asserted q.holding q.small_by q.small q.line_turn q.simple q.block_turn q.suite q.branch_turn q.otherwise q.conditional q.for_each q.as_long q.param_turn q.defined q.mark_turn q.marked q.compound q.stmt_by q.stmt q.text_turn q.stmts q.text
+unfolding r.is r.text_if r.leaf_of q.is_module X.out-PyExpr denote.Hole.Carrier.out chain after expect want nothing whole turns many o.infix_sign o.infix_word o.prefix_of o.augment_sign o.begins_sign o.begins_word r.word_leaf r.leaf r.admits r.closing r.items_turn r.items r.bracketed r.round r.comprehension r.list r.square r.operand r.prefix r.arguments_turn r.sliced r.indexed r.apply r.applied r.operate_turn r.operate r.whole r.tuple_turn r.tuple r.expr r.exprs q.names_turn q.bracketed_names_turn q.imported_names q.imported q.augmented q.valued q.expressed q.returned q.yielded q.raised q.asserted q.holding q.small_by q.small q.line_turn q.simple q.block_turn q.suite q.branch_turn q.otherwise q.conditional q.for_each q.as_long q.param_turn q.defined q.mark_turn q.marked q.compound q.stmt_by q.stmt q.text_turn q.stmts q.text row.level_with row.signs row.keywords
 read1 = (refl, refl, refl, refl, refl, refl, refl, refl, refl)
 
 read2 :
@@ -76,7 +77,7 @@ read2 :
     -- assert a
     -- def f(): pass
     (q.text 2 (on 1 (Keyword 6) ∷ named 1 (codes "a") ∷ on 1 Newline ∷ on 2 (Keyword 12) ∷ named 2 (codes "f") ∷ on 2 (Sign 29) ∷ on 2 (Sign 30) ∷ on 2 (Sign 34) ∷ on 2 (Keyword 29) ∷ on 2 Newline ∷ on 2 End ∷ []) ≡ Ok (((s.Assert 1 (e.Name (codes "a")) None ∷ s.Def (definition [] (codes "f") [] (s.Pass 2 ∷ []) 2) ∷ []), 2), []))
-unfolding r.is r.text_if r.leaf_of q.is_module X.out-PyExpr denote.Hole.Carrier.out chain after expect want nothing whole turns many o.infix_sign o.infix_word o.prefix_of o.augment_sign o.begins_sign o.begins_word r.word_leaf r.leaf r.admits r.closing r.items_turn r.items r.bracketed r.round r.comprehension r.list r.square r.operand r.prefix r.arguments_turn r.sliced r.indexed r.apply r.applied r.operate_turn r.operate r.whole r.tuple_turn r.tuple r.expr r.exprs q.names_turn q.bracketed_names_turn q.imported_names q.imported q.augmented q.valued q.expressed q.returned q.yielded q.raised q.asserted q.holding q.small_by q.small q.line_turn q.simple q.block_turn q.suite q.branch_turn q.otherwise q.conditional q.for_each q.as_long q.param_turn q.defined q.mark_turn q.marked q.compound q.stmt_by q.stmt q.text_turn q.stmts q.text
+unfolding r.is r.text_if r.leaf_of q.is_module X.out-PyExpr denote.Hole.Carrier.out chain after expect want nothing whole turns many o.infix_sign o.infix_word o.prefix_of o.augment_sign o.begins_sign o.begins_word r.word_leaf r.leaf r.admits r.closing r.items_turn r.items r.bracketed r.round r.comprehension r.list r.square r.operand r.prefix r.arguments_turn r.sliced r.indexed r.apply r.applied r.operate_turn r.operate r.whole r.tuple_turn r.tuple r.expr r.exprs q.names_turn q.bracketed_names_turn q.imported_names q.imported q.augmented q.valued q.expressed q.returned q.yielded q.raised q.asserted q.holding q.small_by q.small q.line_turn q.simple q.block_turn q.suite q.branch_turn q.otherwise q.conditional q.for_each q.as_long q.param_turn q.defined q.mark_turn q.marked q.compound q.stmt_by q.stmt q.text_turn q.stmts q.text row.level_with row.signs row.keywords
 read2 = (refl, refl, refl, refl, refl, refl, refl, refl, refl)
 
 -- ---- refused
@@ -108,7 +109,7 @@ refused1 :
     (q.text 9 (on 1 (Keyword 19) ∷ named 1 (codes "myhdl") ∷ on 1 (Keyword 22) ∷ named 1 (codes "a") ∷ on 1 (Sign 33) ∷ on 1 Newline ∷ on 1 End ∷ []) ≡ Err (on 1 Newline ∷ on 1 End ∷ [])) ×
     -- pass pass  (at most 9 deep)
     (q.text 9 (on 1 (Keyword 29) ∷ on 1 (Keyword 29) ∷ on 1 Newline ∷ on 1 End ∷ []) ≡ Err (on 1 (Keyword 29) ∷ on 1 Newline ∷ on 1 End ∷ []))
-unfolding r.is r.text_if r.leaf_of q.is_module X.out-PyExpr denote.Hole.Carrier.out chain after expect want nothing whole turns many o.infix_sign o.infix_word o.prefix_of o.augment_sign o.begins_sign o.begins_word r.word_leaf r.leaf r.admits r.closing r.items_turn r.items r.bracketed r.round r.comprehension r.list r.square r.operand r.prefix r.arguments_turn r.sliced r.indexed r.apply r.applied r.operate_turn r.operate r.whole r.tuple_turn r.tuple r.expr r.exprs q.names_turn q.bracketed_names_turn q.imported_names q.imported q.augmented q.valued q.expressed q.returned q.yielded q.raised q.asserted q.holding q.small_by q.small q.line_turn q.simple q.block_turn q.suite q.branch_turn q.otherwise q.conditional q.for_each q.as_long q.param_turn q.defined q.mark_turn q.marked q.compound q.stmt_by q.stmt q.text_turn q.stmts q.text
+unfolding r.is r.text_if r.leaf_of q.is_module X.out-PyExpr denote.Hole.Carrier.out chain after expect want nothing whole turns many o.infix_sign o.infix_word o.prefix_of o.augment_sign o.begins_sign o.begins_word r.word_leaf r.leaf r.admits r.closing r.items_turn r.items r.bracketed r.round r.comprehension r.list r.square r.operand r.prefix r.arguments_turn r.sliced r.indexed r.apply r.applied r.operate_turn r.operate r.whole r.tuple_turn r.tuple r.expr r.exprs q.names_turn q.bracketed_names_turn q.imported_names q.imported q.augmented q.valued q.expressed q.returned q.yielded q.raised q.asserted q.holding q.small_by q.small q.line_turn q.simple q.block_turn q.suite q.branch_turn q.otherwise q.conditional q.for_each q.as_long q.param_turn q.defined q.mark_turn q.marked q.compound q.stmt_by q.stmt q.text_turn q.stmts q.text row.level_with row.signs row.keywords
 refused1 = (refl, refl, refl, refl, refl, refl, refl, refl, refl, refl, refl, refl, refl)
 
 refused2 :
@@ -140,5 +141,5 @@ refused2 :
     (q.text 1 (on 1 (Keyword 21) ∷ named 1 (codes "a") ∷ on 1 (Sign 34) ∷ on 1 (Keyword 29) ∷ on 1 Newline ∷ on 1 End ∷ []) ≡ Err (on 1 (Keyword 21) ∷ named 1 (codes "a") ∷ on 1 (Sign 34) ∷ on 1 (Keyword 29) ∷ on 1 Newline ∷ on 1 End ∷ [])) ×
     -- a + b + c  (at most 3 deep)
     (q.text 3 (named 1 (codes "a") ∷ on 1 (Sign 1) ∷ named 1 (codes "b") ∷ on 1 (Sign 1) ∷ named 1 (codes "c") ∷ on 1 Newline ∷ on 1 End ∷ []) ≡ Err (on 1 (Sign 1) ∷ named 1 (codes "c") ∷ on 1 Newline ∷ on 1 End ∷ []))
-unfolding r.is r.text_if r.leaf_of q.is_module X.out-PyExpr denote.Hole.Carrier.out chain after expect want nothing whole turns many o.infix_sign o.infix_word o.prefix_of o.augment_sign o.begins_sign o.begins_word r.word_leaf r.leaf r.admits r.closing r.items_turn r.items r.bracketed r.round r.comprehension r.list r.square r.operand r.prefix r.arguments_turn r.sliced r.indexed r.apply r.applied r.operate_turn r.operate r.whole r.tuple_turn r.tuple r.expr r.exprs q.names_turn q.bracketed_names_turn q.imported_names q.imported q.augmented q.valued q.expressed q.returned q.yielded q.raised q.asserted q.holding q.small_by q.small q.line_turn q.simple q.block_turn q.suite q.branch_turn q.otherwise q.conditional q.for_each q.as_long q.param_turn q.defined q.mark_turn q.marked q.compound q.stmt_by q.stmt q.text_turn q.stmts q.text
+unfolding r.is r.text_if r.leaf_of q.is_module X.out-PyExpr denote.Hole.Carrier.out chain after expect want nothing whole turns many o.infix_sign o.infix_word o.prefix_of o.augment_sign o.begins_sign o.begins_word r.word_leaf r.leaf r.admits r.closing r.items_turn r.items r.bracketed r.round r.comprehension r.list r.square r.operand r.prefix r.arguments_turn r.sliced r.indexed r.apply r.applied r.operate_turn r.operate r.whole r.tuple_turn r.tuple r.expr r.exprs q.names_turn q.bracketed_names_turn q.imported_names q.imported q.augmented q.valued q.expressed q.returned q.yielded q.raised q.asserted q.holding q.small_by q.small q.line_turn q.simple q.block_turn q.suite q.branch_turn q.otherwise q.conditional q.for_each q.as_long q.param_turn q.defined q.mark_turn q.marked q.compound q.stmt_by q.stmt q.text_turn q.stmts q.text row.level_with row.signs row.keywords
 refused2 = (refl, refl, refl, refl, refl, refl, refl, refl, refl, refl, refl, refl, refl)

@@ -10,6 +10,7 @@ use Rattle.mh_pytree.specs.declared.expression.PyExpr.TheFolds.{fold_out-PyExpr}
 use Rattle.mh_pytree.specs.declared.expression.Argument.{Argument}
 use Rattle.mh_pytree.specs.Depth.{expr_depth, argument_depth, expr_step, argument_step, deepest}
 use Rattle.mh_pytree.proofs.Depths.{depth-not, depth-unary, depth-argument}
+use Rattle.mh_pytok.specs.Words.{keywords, signs, level_with}
 use Rattle.mh_pyparse.specs.declared.infix.Infix.{Infix}
 use Rattle.mh_pyparse.specs.declared.infix.Infix.TheVariants.{Binary, Attribute, Call, Index}
 use Rattle.mh_pyparse.specs.declared.infix.Prefix.{Prefix}
@@ -117,7 +118,29 @@ level-takes t = takes-some (out-PyExpr t)
 
 -- ---- operators
 
+pub op-most : (op : Operator) → op_level op ≤ 10
+unfolding level_with keywords signs
+op-most Or = omega arith
+op-most And = omega arith
+op-most Equal = omega arith
+op-most NotEqual = omega arith
+op-most Less = omega arith
+op-most LessEqual = omega arith
+op-most Greater = omega arith
+op-most GreaterEqual = omega arith
+op-most BitOr = omega arith
+op-most BitXor = omega arith
+op-most BitAnd = omega arith
+op-most ShiftLeft = omega arith
+op-most ShiftRight = omega arith
+op-most Add = omega arith
+op-most Subtract = omega arith
+op-most Multiply = omega arith
+op-most Divide = omega arith
+op-most Remainder = omega arith
+
 pub binds-needs : (i : Infix) → binds i ≤ needs i
+unfolding level_with keywords signs
 binds-needs (Binary Or) = omega arith
 binds-needs (Binary And) = omega arith
 binds-needs (Binary Equal) = omega arith
@@ -141,6 +164,7 @@ binds-needs Call = omega arith
 binds-needs Index = omega arith
 
 binds-some : (i : Infix) → binds i < 13
+unfolding level_with keywords signs
 binds-some (Binary Or) = omega arith
 binds-some (Binary And) = omega arith
 binds-some (Binary Equal) = omega arith
@@ -164,6 +188,7 @@ binds-some Call = omega arith
 binds-some Index = omega arith
 
 needs-some : (i : Infix) → 1 ≤ needs i
+unfolding level_with keywords signs
 needs-some (Binary Or) = omega arith
 needs-some (Binary And) = omega arith
 needs-some (Binary Equal) = omega arith
@@ -188,6 +213,7 @@ needs-some Index = omega arith
 
 -- none that needs what stands in front to be as loose as `not`, or as a sign, binds so tightly
 not_free : (i : Infix) → needs i ≤ 3 → binds i < 3
+unfolding level_with keywords signs
 not_free (Binary Or) h = omega arith
 not_free (Binary And) h = omega arith
 not_free (Binary Equal) h = omega arith
@@ -211,6 +237,7 @@ not_free Call h = omega arith
 not_free Index h = omega arith
 
 sign_free : (i : Infix) → needs i ≤ 11 → binds i < 11
+unfolding level_with keywords signs
 sign_free (Binary Or) h = omega arith
 sign_free (Binary And) h = omega arith
 sign_free (Binary Equal) h = omega arith

@@ -22,3 +22,4 @@ pub mod Refuse
 pub mod Names
 pub mod Starts
 pub mod Inside
+pub mod Spellings

@@ -1,5 +1,6 @@
 -- Sentences with their derivations: what the grammar says of them, production by production.
 use Rattle.std.proofs.Common.{◌≡◌, ℕ, pos, ◌≤◌, ◌+◌, List, [], ◌∷◌, ◌++◌, Some, None, refl, arith, codes}
+use Rattle.mh_pytok.specs.Words.{keywords, signs, level_with}
 use Rattle.mh_pytok.specs.Lexeme.{Lexeme}
 use Rattle.mh_pytok.specs.Numbers.{number_value}
 use Rattle.mh_pytok.specs.declared.token.Tok.{Tok}
@@ -194,12 +195,14 @@ n text h = name_ (word text) h
 -- x = a & b
 bitwise_and : IsSmall (s.Assign 1 (v (codes "x")) (e.Binary op.BitAnd (v (codes "a")) (v (codes "b"))))
     (named (codes "x") ∷ sign equals ∷ named (codes "a") ∷ sign (Sign 6) ∷ named (codes "b") ∷ [])
+unfolding level_with keywords signs
 bitwise_and = assign_ (at 1) (single_ (n (codes "x") (omega arith)))
     (single_ (binary_ op.BitAnd (at 1) (omega arith) (n (codes "a") (omega arith)) (n (codes "b") (omega arith))))
 
 -- a - b - c
 differences : IsExpr 1 (e.Binary op.Subtract (e.Binary op.Subtract (v (codes "a")) (v (codes "b"))) (v (codes "c")))
     (named (codes "a") ∷ sign (Sign 2) ∷ named (codes "b") ∷ sign (Sign 2) ∷ named (codes "c") ∷ [])
+unfolding level_with keywords signs
 differences = binary_ op.Subtract (at 1) (omega arith)
     (binary_ op.Subtract (at 1) (omega arith) (n (codes "a") (omega arith)) (n (codes "b") (omega arith)))
     (n (codes "c") (omega arith))
@@ -207,6 +210,7 @@ differences = binary_ op.Subtract (at 1) (omega arith)
 -- not a == b
 unequal : IsExpr 1 (e.Not (e.Binary op.Equal (v (codes "a")) (v (codes "b"))))
     (sign not_word ∷ named (codes "a") ∷ sign (Sign 12) ∷ named (codes "b") ∷ [])
+unfolding level_with keywords signs
 unequal = negation_ (at 1) (omega arith) (binary_ op.Equal (at 1) (omega arith) (n (codes "a") (omega arith)) (n (codes "b") (omega arith)))
 
 -- f(x, y=1,)

@@ -7,7 +7,6 @@ use Rattle.mh_pytok.specs.Lexeme.{Lexeme}
 use Rattle.mh_pytok.specs.declared.token.Tok.{Tok}
 use Rattle.mh_pytok.specs.declared.token.Tok.TheVariants.{Name, Number, Str, Keyword}
 use Rattle.mh_pytree.specs.declared.expression.Operator.{Operator}
-use Rattle.mh_pytree.specs.declared.expression.Operator.TheVariants.{Or}
 use Rattle.mh_pytree.specs.declared.expression.PyExpr.{PyExpr, the_lemmas}
 use Rattle.mh_pytree.specs.declared.expression.PyExpr.TheVariants as tree
 use Rattle.mh_pytree.specs.declared.expression.Argument.{Argument}
@@ -23,6 +22,7 @@ use Rattle.mh_pyparse.specs.Grammar.{Spot, tok, argument, IsExpr, AreItems, AreA
 use Rattle.mh_pyparse.specs.Operators.{binds, needs, infix_kind, prefix_level, prefix_kind, level, name_of}
 use Rattle.mh_pyparse.specs.Reading as r
 use Rattle.mh_pyparse.specs.Reading.{Read, Deep, Row, Arguments, is, leaf_of, leaf_by, word_leaf, infix_at, prefix_at, begins_at}
+use Rattle.mh_pyparse.proofs.Levels.{op-most}
 use Rattle.mh_pyparse.proofs.Tables as table
 use Rattle.mh_pyparse.proofs.Tables.{is_true, infix_kind_of, prefix_kind_of}
 use Rattle.mh_pyparse.proofs.SoundRows.{yields_text, yields_taken, yields_closing, WithCommas, Partly, Listed, Closed, row_begun, row_more, row_ends, row_ends_after, row_closed, row_closed_after}
@@ -156,8 +156,7 @@ arguments_rules = record {
 }
 
 op_low : (op : Operator) → op_level op + 1 ≤ 12
-op_low Or = omega arith
-op_low _ = omega arith
+op_low op = omega (arith, op-most op)
 
 pub and_both : (a b : Bool) → (a && b) ≡ true → (a ≡ true) × (b ≡ true)
 and_both true true e = (refl, refl)

@@ -1,9 +1,9 @@
 -- The first step of the readers that count their depth down.
-use Rattle.std.proofs.Common.{◌≡◌, ℕ, zero, suc, ◌-◌, List, [], refl, ap, arith, Ok, Err}
+use Rattle.std.proofs.Common.{◌≡◌, ℕ, zero, suc, ◌-◌, List, [], refl, ap, arith, Err}
 use Rattle.mh_reader.specs.Reader.{◌>>=◌, many}
 use Rattle.mh_pytok.specs.Lexeme.{Lexeme}
 use Rattle.mh_pyparse.specs.Reading.{expr, exprs, tuple, whole}
-use Rattle.mh_pyparse.specs.ReadingStatements.{Body, simple, line_turn, stmt, stmt_by}
+use Rattle.mh_pyparse.specs.ReadingStatements.{simple, line_turn, stmt, stmt_by}
 
 pub expr_at : (d least : ℕ) (ts : List Lexeme) → (d ≡ 0 → ⊥) → expr d least ts ≡ whole (expr (d - 1)) (d - 1) least ts
 unfolding expr

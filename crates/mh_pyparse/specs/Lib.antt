@@ -1,4 +1,5 @@
 pub mod Signs
+pub mod Spelling
 pub mod Grammar
 pub mod Statements
 pub mod Claims

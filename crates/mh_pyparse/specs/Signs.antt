@@ -1,6 +1,7 @@
 -- The signs and words of the Python subset by their tags, and how tightly its operators bind (Python Language Reference, section
 -- 6.17, without chained comparisons).
-use Rattle.std.specs.Prelude.{ℕ, Bool, true, false, ◌==◌, Option, Some, None}
+use Rattle.std.specs.Prelude.{ℕ, suc, Bool, true, false, ◌==◌, if◌then◌else◌, Option, Some, None}
+use Rattle.mh_pytok.specs.Words.{level_of}
 use Rattle.mh_pytok.specs.declared.token.Tok.{Tok}
 use Rattle.mh_pytok.specs.declared.token.Tok.TheVariants.{Name, Number, Str, Keyword, Sign, Newline, Indent, Dedent, End}
 use Rattle.mh_pytree.specs.declared.expression.Operator.{Operator}
@@ -162,44 +163,11 @@ augmented _ = None
 
 -- ---- levels: 1 or, 2 and, 3 not, 4 comparison, 5 |, 6 ^, 7 &, 8 shift, 9 sum, 10 term, 11 sign in front, 12 primary
 
+-- how tightly an operator binds: the level in the row of its sign or word
 abbrev pub op_level : Operator → ℕ
-op_level Or = 1
-op_level And = 2
-op_level Equal = 4
-op_level NotEqual = 4
-op_level Less = 4
-op_level LessEqual = 4
-op_level Greater = 4
-op_level GreaterEqual = 4
-op_level BitOr = 5
-op_level BitXor = 6
-op_level BitAnd = 7
-op_level ShiftLeft = 8
-op_level ShiftRight = 8
-op_level Add = 9
-op_level Subtract = 9
-op_level Multiply = 10
-op_level Divide = 10
-op_level Remainder = 10
+op_level op = level_of (spelled op)
 
 -- The least level of an operator's left operand: that of the operator, since operators group to the left, but a comparison does
 -- not chain.
 abbrev pub left_level : Operator → ℕ
-left_level Or = 1
-left_level And = 2
-left_level Equal = 5
-left_level NotEqual = 5
-left_level Less = 5
-left_level LessEqual = 5
-left_level Greater = 5
-left_level GreaterEqual = 5
-left_level BitOr = 5
-left_level BitXor = 6
-left_level BitAnd = 7
-left_level ShiftLeft = 8
-left_level ShiftRight = 8
-left_level Add = 9
-left_level Subtract = 9
-left_level Multiply = 10
-left_level Divide = 10
-left_level Remainder = 10
+left_level op = if op_level op == op_level Less then suc (op_level op) else op_level op

@@ -3,7 +3,7 @@ ghost use Rattle.mh_pyparse.specs.Signs as signs;
 ghost use Rattle.mh_pyparse.specs.Operators as spec;
 ghost use Rattle.mh_pyparse.specs.Reading as reading;
 
-use mh_pytok::Tok;
+use mh_pytok::{Tok, level_of};
 use mh_pytree::{Operator, PyExpr, Sign};
 
 /// What stands after its first operand: a binary operator, `.`, `(` of a call, or `[` of an index.
@@ -72,27 +72,38 @@ pub fn infix_of(kind: Tok) -> Option<Infix>
     }
 }
 
-/// How tightly an operator binds.
+/// The sign or word between the operands of an operator.
+fn spelled(op: Operator) -> Tok
+    ensures { result ≡ signs.spelled op }
+{
+    match op {
+        Operator::Or => Tok::Keyword(28),
+        Operator::And => Tok::Keyword(4),
+        Operator::Equal => Tok::Sign(12),
+        Operator::NotEqual => Tok::Sign(13),
+        Operator::Less => Tok::Sign(14),
+        Operator::LessEqual => Tok::Sign(15),
+        Operator::Greater => Tok::Sign(16),
+        Operator::GreaterEqual => Tok::Sign(17),
+        Operator::BitOr => Tok::Sign(7),
+        Operator::BitXor => Tok::Sign(8),
+        Operator::BitAnd => Tok::Sign(6),
+        Operator::ShiftLeft => Tok::Sign(10),
+        Operator::ShiftRight => Tok::Sign(11),
+        Operator::Add => Tok::Sign(1),
+        Operator::Subtract => Tok::Sign(2),
+        Operator::Multiply => Tok::Sign(3),
+        Operator::Divide => Tok::Sign(4),
+        Operator::Remainder => Tok::Sign(5),
+    }
+}
+
+/// How tightly an operator binds: the level in the row of its sign or word.
 pub fn op_level(op: Operator) -> u8
     ensures value { result ≡ signs.op_level op }
     ensures small { result ≤ 10 }
 {
-    match op {
-        Operator::Or => 1,
-        Operator::And => 2,
-        Operator::Equal
-        | Operator::NotEqual
-        | Operator::Less
-        | Operator::LessEqual
-        | Operator::Greater
-        | Operator::GreaterEqual => 4,
-        Operator::BitOr => 5,
-        Operator::BitXor => 6,
-        Operator::BitAnd => 7,
-        Operator::ShiftLeft | Operator::ShiftRight => 8,
-        Operator::Add | Operator::Subtract => 9,
-        Operator::Multiply | Operator::Divide | Operator::Remainder => 10,
-    }
+    level_of(spelled(op))
 }
 
 /// How tightly the operator binds, other than a binary one too.
@@ -109,21 +120,11 @@ pub fn binds(operator: Infix) -> u8
 fn left_level(op: Operator) -> u8
     ensures { result ≡ signs.left_level op }
 {
-    match op {
-        Operator::Or => 1,
-        Operator::And => 2,
-        Operator::Equal
-        | Operator::NotEqual
-        | Operator::Less
-        | Operator::LessEqual
-        | Operator::Greater
-        | Operator::GreaterEqual
-        | Operator::BitOr => 5,
-        Operator::BitXor => 6,
-        Operator::BitAnd => 7,
-        Operator::ShiftLeft | Operator::ShiftRight => 8,
-        Operator::Add | Operator::Subtract => 9,
-        Operator::Multiply | Operator::Divide | Operator::Remainder => 10,
+    let level = op_level(op);
+    if level == op_level(Operator::Less) {
+        level + 1
+    } else {
+        level
     }
 }
 

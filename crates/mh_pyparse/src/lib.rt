@@ -12,5 +12,5 @@ mod small;
 mod stmt;
 mod text;
 
-pub use laws::one_tree;
+pub use laws::{levels_are_of_rows, one_tree, signs_are_spelled};
 pub use text::parse;

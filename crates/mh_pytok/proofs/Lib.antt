@@ -15,3 +15,4 @@ pub mod NextLaws
 pub mod Always
 pub mod Outcome
 pub mod LongestLaws
+pub mod LevelLaws

@@ -1,8 +1,10 @@
 -- The reserved words of Python 3 (the reference, 2.3.1) and the signs of the subset, each with its tag and
 -- with how tightly it binds as an operator: 1 or, 2 and, 3 not, 4 comparisons, 5 |, 6 ^, 7 &, 8 shifts, 9 sums,
 -- 10 products, 12 what follows a primary; 0 for what is no operator between two operands or behind one.
-use Rattle.std.specs.Prelude.{ℕ, List, [], ◌∷◌, Option, None, Some, take, codes}
+use Rattle.std.specs.Prelude.{ℕ, List, [], ◌∷◌, ◌==◌, if◌then◌else◌, Option, None, Some, take, codes}
 use Rattle.mh_text.specs.Rows.{Entry, found}
+use Rattle.mh_pytok.specs.declared.token.Tok.{Tok}
+use Rattle.mh_pytok.specs.declared.token.Tok.TheVariants.{Keyword, Sign}
 
 abbrev pub row : List ℕ → ℕ → ℕ → Entry
 row spelling tag level = record { spelling = spelling; tag = tag; level = level }
@@ -39,3 +41,23 @@ or_else (Some x) y = Some x
 -- The longest sign at the front of the bytes. No sign has more than three.
 unfoldable pub longest_sign : List ℕ → Option Entry
 longest_sign bytes = or_else (found signs (take 3 bytes)) (or_else (found signs (take 2 bytes)) (found signs (take 1 bytes)))
+
+abbrev pub word_by : Option Entry → Option Entry → Option Tok
+word_by (Some row) _ = Some (Keyword row.tag)
+word_by None (Some row) = Some (Sign row.tag)
+word_by None None = None
+
+-- the keyword or the sign that a text is, by its row
+unfoldable pub word_of : List ℕ → Option Tok
+word_of text = word_by (found keywords text) (found signs text)
+
+-- the level of the row of this tag, 0 where no row has it
+unfoldable pub level_with : List Entry → ℕ → ℕ
+level_with [] tag = 0
+level_with (x ∷ xs) tag = if x.tag == tag then x.level else level_with xs tag
+
+-- how tightly a keyword or a sign binds, by its row
+abbrev pub level_of : Tok → ℕ
+level_of (Keyword tag) = level_with keywords tag
+level_of (Sign tag) = level_with signs tag
+level_of _ = 0

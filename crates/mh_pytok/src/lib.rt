@@ -21,4 +21,4 @@ pub use lex::tokens;
 pub use numbers::number;
 pub use strings::string;
 pub use token::{Tok, Token};
-pub use words::{KEYWORDS, SIGNS};
+pub use words::{KEYWORDS, SIGNS, level_of};

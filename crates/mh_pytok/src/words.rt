@@ -1,8 +1,10 @@
 ghost use Rattle.std.specs.Prelude.{◌≡◌, option_map};
-ghost use Rattle.mh_text.specs.Rows.{entry_of, found};
+ghost use Rattle.mh_text.specs.Rows.{entry_of, entries_of, found};
+ghost use Rattle.mh_pytok.specs.Words as spec;
 ghost use Rattle.mh_pytok.specs.Words.{keywords, signs, longest_sign};
 
 use crate::scan::front;
+use crate::token::Tok;
 use mh_text::{Row, Table};
 
 /// A row of a table: its spelling, its tag, and its level.
@@ -126,4 +128,27 @@ pub(crate) fn sign_at(bytes: &[u8]) -> Option<Row>
         return Some(row);
     }
     sign(front(bytes, 1))
+}
+
+/// The level of the row of this tag, 0 where no row has it.
+fn level_with(rows: &[Row], tag: u16) -> u8
+    ensures { result ≡ spec.level_with (entries_of rows.now) tag }
+{
+    for row in rows {
+        if row.tag == tag {
+            return row.level;
+        }
+    }
+    0
+}
+
+/// How tightly a keyword or a sign binds, by its row; 0 for any other token. Takes no memory.
+pub fn level_of(kind: Tok) -> u8
+    ensures { result ≡ spec.level_of kind }
+{
+    match kind {
+        Tok::Keyword(tag) => level_with(KEYWORDS.rows, tag),
+        Tok::Sign(tag) => level_with(SIGNS.rows, tag),
+        _ => 0,
+    }
 }

@@ -5,8 +5,6 @@
 
 mod expression;
 mod statement;
-#[cfg(test)]
-mod tests;
 
 pub use expression::{Argument, Operator, PyExpr, Sign};
 pub use statement::{Branch, FuncDef, Module, Param, PyStmt};

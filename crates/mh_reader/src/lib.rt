@@ -7,8 +7,6 @@
 mod cursor;
 mod fault;
 mod laws;
-#[cfg(test)]
-mod tests;
 mod token;
 
 pub use cursor::{Kind, Tokens};

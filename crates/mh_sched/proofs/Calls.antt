@@ -1,7 +1,7 @@
 -- Calls that go on with one another do one delta, and the lines of their prints are its lines.
 use Rattle.std.proofs.Common.{◌≡◌, ℕ, ◌+◌, ◌≤◌, true, List, [], ◌∷◌, refl, sym, ap, ◌∙◌, subst, arith}
 use Rattle.std.specs.Prelude.{Result, Ok, Err}
-use Rattle.mh_flat.specs.declared.step.Resumed.TheVariants as resumed
+use Rattle.mh_flow.specs.declared.resumed.Resumed.TheVariants as resumed
 use Rattle.mh_design.specs.declared.design.Design.{Design}
 use Rattle.mh_design.specs.declared.design.Generator.{Generator}
 use Rattle.mh_design.specs.Bodies.{prints_at, line_at}

@@ -1,9 +1,9 @@
 -- An evaluation of a generator ends, and so do the evaluations of a delta.
 use Rattle.std.proofs.Common.{◌≡◌, ℕ, zero, suc, ◌+◌, ◌-◌, ◌<◌, ◌≤◌, Bool, true, false, List, [], ◌∷◌, ◌++◌, refl, ap, ◌∙◌, arith, length}
 use Rattle.std.specs.Prelude.{Result, Ok, Err}
-use Rattle.mh_flat.specs.declared.step.Resumed.{Resumed}
-use Rattle.mh_flat.specs.declared.step.Resumed.TheVariants as resumed
-use Rattle.mh_flat.specs.Flow.{HasEvaluation, Reaches, here, onward}
+use Rattle.mh_flow.specs.declared.resumed.Resumed.{Resumed}
+use Rattle.mh_flow.specs.declared.resumed.Resumed.TheVariants as resumed
+use Rattle.mh_flow.specs.Flow.{HasEvaluation, Reaches, here, onward}
 use Rattle.mh_design.specs.declared.design.Design.{Design}
 use Rattle.mh_design.specs.declared.design.Generator.{Generator}
 use Rattle.mh_design.specs.Assignments.{meaning}

@@ -1,9 +1,9 @@
 -- An evaluation of a generator has one outcome, and so have the evaluations of a delta.
 use Rattle.std.proofs.Common.{◌≡◌, ℕ, ◌+◌, true, false, List, refl, sym, ap, ◌∙◌, subst}
 use Rattle.std.specs.Prelude.{None, Some, Result, Ok, Err}
-use Rattle.mh_flat.specs.declared.step.Resumed.{Resumed}
-use Rattle.mh_flat.specs.declared.step.Resumed.TheVariants as resumed
-use Rattle.mh_flat.specs.Flow.{IsNoMemory}
+use Rattle.mh_flow.specs.declared.resumed.Resumed.{Resumed}
+use Rattle.mh_flow.specs.declared.resumed.Resumed.TheVariants as resumed
+use Rattle.mh_flow.specs.Flow.{IsNoMemory}
 use Rattle.mh_design.specs.declared.design.Design.{Design}
 use Rattle.mh_design.specs.declared.design.Generator.{Generator}
 use Rattle.mh_design.specs.Assignments.{meaning}

@@ -4,9 +4,9 @@ use Rattle.std.specs.Prelude.{ℤ, pos, ◌+ℤ◌, ◌-ℤ◌, Result, Ok, Err,
 use Rattle.std.proofs.lemmas.List.{length-set}
 use Rattle.mh_codes.specs.Ranges.{is_inside}
 use Rattle.mh_num.specs.declared.bounds.OutOfBounds.{OutOfBounds}
-use Rattle.mh_flat.specs.declared.step.Resumed.{Resumed}
-use Rattle.mh_flat.specs.declared.step.Resumed.TheVariants as resumed
-use Rattle.mh_flat.specs.Flow as flow
+use Rattle.mh_flow.specs.declared.resumed.Resumed.{Resumed}
+use Rattle.mh_flow.specs.declared.resumed.Resumed.TheVariants as resumed
+use Rattle.mh_flow.specs.Flow as flow
 use Rattle.mh_design.specs.declared.statement.Binding.{Binding}
 use Rattle.mh_design.specs.declared.statement.Binding.TheVariants as binding
 use Rattle.mh_design.specs.Tree.{Expression, LeftSide, Whole, LeftBit, LeftSlice, Bind}

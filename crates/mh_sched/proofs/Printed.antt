@@ -1,7 +1,7 @@
 -- What is known of a call of a delta that prints: it goes on with a later statement or generator, and the values stay.
 use Rattle.std.proofs.Common.{◌≡◌, ℕ, ◌+◌, ◌<◌, ◌≤◌, false, List, ◌⊎◌, inl, inr, refl, ◌∙◌, arith}
-use Rattle.mh_flat.specs.declared.step.Resumed.TheVariants as resumed
-use Rattle.mh_flat.specs.Flow as flow
+use Rattle.mh_flow.specs.declared.resumed.Resumed.TheVariants as resumed
+use Rattle.mh_flow.specs.Flow as flow
 use Rattle.mh_design.specs.declared.design.Design.{Design}
 use Rattle.mh_design.specs.declared.design.Generator.{Generator}
 use Rattle.mh_design.specs.Values.{Signals, Store}

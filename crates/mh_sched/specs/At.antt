@@ -91,7 +91,8 @@ StandsAfter (Err f) new = HasFailed f new
 -- What a print has answered, added and left.
 pub data Printed (d : Design) (g k : ℕ) : Standing → Result (Unit {0}) SimFault → List ℕ → Standing → Type 0 where
   says : {m : Moment} {n : ℕ} {line : Line} → line_at_print d m g k ≡ Ok line → Printed d g k (Inside m g n) (Ok tt) (line_bytes line) (Inside m g n)
-  fails : {m : Moment} {n : ℕ} {e : Ending} {f : SimFault} → line_at_print d m g k ≡ Err e → ending_answer m.state.time e ≡ Err f → Printed d g k (Inside m g n) (Err f) [] (Over (Fails f) m.state.signals.values)
+  fails : {m : Moment} {n : ℕ} {e : Ending} {f : SimFault} → line_at_print d m g k ≡ Err e → ending_answer m.state.time e ≡ Err f →
+      Printed d g k (Inside m g n) (Err f) [] (Over (Fails f) m.state.signals.values)
   failed : {f : SimFault} {vs : List ℤ} → Printed d g k (Over (Fails f) vs) (Err f) [] (Over (Fails f) vs)
 
 pub record HasPrinted (d : Design) (g k : ℕ) (st : Standing) (a : Result (Unit {0}) SimFault) (before after : List ℕ) (new : Sim) : Type 0 where

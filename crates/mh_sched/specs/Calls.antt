@@ -1,8 +1,8 @@
 -- A delta by calls: this project's own rule. A call evaluates the woken generators in order, up to the next print or to the end of the
 -- delta. After a print the same delta is gone on with, where the evaluation that prints has been left.
 use Rattle.std.specs.Prelude.{ℕ, ◌≡◌, ◌+◌, true, false, List, [], ◌∷◌, ◌++◌, Some, Result, Ok, Err}
-use Rattle.mh_flat.specs.declared.step.Resumed.{Resumed}
-use Rattle.mh_flat.specs.declared.step.Resumed.TheVariants as resumed
+use Rattle.mh_flow.specs.declared.resumed.Resumed.{Resumed}
+use Rattle.mh_flow.specs.declared.resumed.Resumed.TheVariants as resumed
 use Rattle.mh_design.specs.declared.design.Design.{Design}
 use Rattle.mh_design.specs.declared.design.Generator.{Generator}
 use Rattle.mh_design.specs.Bodies.{prints_at, line_at}
@@ -37,19 +37,24 @@ module _ (d : Design) (time : ℕ) where
     -- The generators from number k on are gone through: one that isn't woken stays as it is.
     pub data Passes : ℕ → List Generator → List Process → Signals → Reply → List Process → Signals → Type 0 where
       all : {k : ℕ} {s : Signals} → Passes k [] [] s Finished [] s
-      rests : {k : ℕ} {g : Generator} {gs : List Generator} {p : Process} {ps qs : List Process} {s t : Signals} {r : Reply} → is_woken s time p k ≡ false → Passes (k + 1) gs ps s r qs t → Passes k (g ∷ gs) (p ∷ ps) s r (p ∷ qs) t
-      begins : {k : ℕ} {g : Generator} {gs : List Generator} {p : Process} {ps qs : List Process} {s t : Signals} {r : Reply} → is_woken s time p k ≡ true → Resumes 0 k (g ∷ gs) (p ∷ ps) s r qs t → Passes k (g ∷ gs) (p ∷ ps) s r qs t
+      rests : {k : ℕ} {g : Generator} {gs : List Generator} {p : Process} {ps qs : List Process} {s t : Signals} {r : Reply} → is_woken s time p k ≡ false →
+          Passes (k + 1) gs ps s r qs t → Passes k (g ∷ gs) (p ∷ ps) s r (p ∷ qs) t
+      begins : {k : ℕ} {g : Generator} {gs : List Generator} {p : Process} {ps qs : List Process} {s t : Signals} {r : Reply} → is_woken s time p k ≡ true →
+          Resumes 0 k (g ∷ gs) (p ∷ ps) s r qs t → Passes k (g ∷ gs) (p ∷ ps) s r qs t
 
     -- The evaluation of the generator with number k goes on, after so many statements.
     pub data Resumes : ℕ → ℕ → List Generator → List Process → Signals → Reply → List Process → Signals → Type 0 where
-      prints : {n k m j : ℕ} {g : Generator} {gs : List Generator} {p : Process} {ps : List Process} {s : Signals} {left : Left} {u : Store} → Flows p.left (store_of d time s p) n (resumed.Says j) left u m → Resumes n k (g ∷ gs) (p ∷ ps) s (Prints k j m (printed g j u)) (interrupted p left u ∷ ps) u.signals
+      prints : {n k m j : ℕ} {g : Generator} {gs : List Generator} {p : Process} {ps : List Process} {s : Signals} {left : Left} {u : Store} →
+          Flows p.left (store_of d time s p) n (resumed.Says j) left u m →
+          Resumes n k (g ∷ gs) (p ∷ ps) s (Prints k j m (printed g j u)) (interrupted p left u ∷ ps) u.signals
       ends : {n k m : ℕ} {g : Generator} {gs : List Generator} {p : Process} {ps qs : List Process} {s t : Signals} {left : Left} {u : Store} {a : Resumed Fault} {e : Ending} {r : Reply} → Flows p.left (store_of d time s p) n a left u m → ending_of d g left a ≡ Some e → goes_on e ≡ true → Passes (k + 1) gs ps (waiting u.signals k (waits_after d g e)) r qs t → Resumes n k (g ∷ gs) (p ∷ ps) s r (evaluated time left u ∷ qs) t
       breaks : {n k m : ℕ} {g : Generator} {gs : List Generator} {p : Process} {ps : List Process} {s : Signals} {left : Left} {u : Store} {a : Resumed Fault} {e : Ending} → Flows p.left (store_of d time s p) n a left u m → ending_of d g left a ≡ Some e → goes_on e ≡ false → Resumes n k (g ∷ gs) (p ∷ ps) s (Breaks k e) (p ∷ ps) s
 
   -- The generators before number i have been gone through; that with number i goes on.
   pub data GoesOn (i n : ℕ) : ℕ → List Generator → List Process → Signals → Reply → List Process → Signals → Type 0 where
     here : {gs : List Generator} {ps qs : List Process} {s t : Signals} {r : Reply} → Resumes n i gs ps s r qs t → GoesOn i n i gs ps s r qs t
-    skip : {k : ℕ} {g : Generator} {gs : List Generator} {p : Process} {ps qs : List Process} {s t : Signals} {r : Reply} → GoesOn i n (k + 1) gs ps s r qs t → GoesOn i n k (g ∷ gs) (p ∷ ps) s r (p ∷ qs) t
+    skip : {k : ℕ} {g : Generator} {gs : List Generator} {p : Process} {ps qs : List Process} {s t : Signals} {r : Reply} → GoesOn i n (k + 1) gs ps s r qs t →
+        GoesOn i n k (g ∷ gs) (p ∷ ps) s r (p ∷ qs) t
 
   -- What is left of a delta whose generator with number k has executed so many statements of its evaluation: the outcome, the lines that
   -- are still printed, and the processes and the signals after.
@@ -59,7 +64,8 @@ module _ (d : Design) (time : ℕ) where
 
   pub data Rest (i n : ℕ) : ℕ → List Generator → List Process → Signals → Outcome → List Line → List Process → Signals → Type 0 where
     here : {gs : List Generator} {ps qs : List Process} {s t : Signals} {o : Outcome} {lines : List Line} → Remains n i gs ps s o lines qs t → Rest i n i gs ps s o lines qs t
-    skip : {k : ℕ} {g : Generator} {gs : List Generator} {p : Process} {ps qs : List Process} {s t : Signals} {o : Outcome} {lines : List Line} → Rest i n (k + 1) gs ps s o lines qs t → Rest i n k (g ∷ gs) (p ∷ ps) s o lines (p ∷ qs) t
+    skip : {k : ℕ} {g : Generator} {gs : List Generator} {p : Process} {ps qs : List Process} {s t : Signals} {o : Outcome} {lines : List Line} →
+        Rest i n (k + 1) gs ps s o lines qs t → Rest i n k (g ∷ gs) (p ∷ ps) s o lines (p ∷ qs) t
 
 -- A delta that is broken off by the evaluation of this generator.
 pub record Broken (d : Design) (time k : ℕ) (gs : List Generator) (ps : List Process) (s : Signals) (i : ℕ) (e : Ending) (lines : List Line) : Type 0 where

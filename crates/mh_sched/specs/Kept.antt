@@ -1,8 +1,8 @@
 -- Which state of the definition what is kept of a run stands for: this project's own rule. These are relations, since a state of the code
 -- stands for more than one list of what is left.
 use Rattle.std.specs.Prelude.{ℕ, ◌≡◌, ◌<◌, ◌≤◌, true, false, ◌==◌, ◌⊎◌, List, [], ◌++◌, length, take, drop, slice_get, slice_set, Some, Result, Ok, Err, if◌then◌else◌}
-use Rattle.mh_flat.specs.declared.step.Resumed.{Resumed}
-use Rattle.mh_flat.specs.declared.step.Resumed.TheVariants as resumed
+use Rattle.mh_flow.specs.declared.resumed.Resumed.{Resumed}
+use Rattle.mh_flow.specs.declared.resumed.Resumed.TheVariants as resumed
 use Rattle.mh_flat.specs.Fits.{FitsItems}
 use Rattle.mh_flat.specs.Stands.{StandsFor}
 use Rattle.mh_design.specs.declared.design.Design.{Design}
@@ -152,7 +152,8 @@ count_at g n k = if k == g then n else 0
 -- Each generator stands so.
 abbrev pub AllStand : Design → List Plan → List Kept → List Process → (ℕ → ℕ) → Type 0
 AllStand d ps qs xs counts =
-    (k : ℕ) (g : Generator) (p : Plan) (q : Kept) (x : Process) → slice_get d.generators k ≡ Some g → slice_get ps k ≡ Some p → slice_get qs k ≡ Some q → slice_get xs k ≡ Some x → IsPlan d g p × IsStanding d g p q x (counts k)
+    (k : ℕ) (g : Generator) (p : Plan) (q : Kept) (x : Process) → slice_get d.generators k ≡ Some g → slice_get ps k ≡ Some p → slice_get qs k ≡ Some q →
+    slice_get xs k ≡ Some x → IsPlan d g p × IsStanding d g p q x (counts k)
 
 -- What is kept of a run is the state of these signals and generators at this time.
 pub record IsRun (r : Run) (time : ℕ) (s : Signals) (xs : List Process) (counts : ℕ → ℕ) : Type 0 where
@@ -253,7 +254,8 @@ pub record HasResumed (d : Design) (time n k : ℕ) (xs : List Process) (s : Sig
 -- What the statement with this number of this generator prints.
 abbrev pub AllSaid : Run → ℕ → ℕ → (Result Line Ending → Type 0) → Type 0
 AllSaid r g k P =
-    (time : ℕ) (s : Signals) (xs : List Process) (counts : ℕ → ℕ) (of : Generator) (x : Process) → IsRun r time s xs counts → slice_get (design_of r).generators g ≡ Some of → slice_get xs g ≡ Some x → P (printed of k (store_of (design_of r) time s x))
+    (time : ℕ) (s : Signals) (xs : List Process) (counts : ℕ → ℕ) (of : Generator) (x : Process) → IsRun r time s xs counts →
+    slice_get (design_of r).generators g ≡ Some of → slice_get xs g ≡ Some x → P (printed of k (store_of (design_of r) time s x))
 
 -- The line is added to some bytes, or its fault is kept.
 abbrev pub said_on : List ℕ → Result Line Ending → Result (List ℕ) Ending

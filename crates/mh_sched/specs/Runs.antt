@@ -47,8 +47,10 @@ module _ (d : Design) where
   -- The deltas of a time: the moment before, how they end, the lines that are printed, and the moment after the last full delta.
   pub data Settles : Moment → Close → List Line → Moment → Type 0 where
     rests : {m : Moment} → is_due d m.state ≡ false → Settles m AtRest [] m
-    ran : {m n : Moment} {st : State} {c : Close} {own more : List Line} → is_due d m.state ≡ true → m.deltas < delta_limit → DeltaStep d m.state Done own st → Settles (after_delta m st) c more n → Settles m c (own ++ more) n
-    ends : {m : Moment} {st : State} {own : List Line} {k : ℕ} {e : Ending} → is_due d m.state ≡ true → m.deltas < delta_limit → DeltaStep d m.state (BrokenOff k e) own st → Settles m (close_of m.state.time e) own m
+    ran : {m n : Moment} {st : State} {c : Close} {own more : List Line} → is_due d m.state ≡ true → m.deltas < delta_limit → DeltaStep d m.state Done own st →
+        Settles (after_delta m st) c more n → Settles m c (own ++ more) n
+    ends : {m : Moment} {st : State} {own : List Line} {k : ℕ} {e : Ending} → is_due d m.state ≡ true → m.deltas < delta_limit →
+        DeltaStep d m.state (BrokenOff k e) own st → Settles m (close_of m.state.time e) own m
     exceeds : {m : Moment} → is_due d m.state ≡ true → delta_limit ≤ m.deltas → Settles m (Fails (too_many_deltas m.state.time)) [] m
 
 -- The ends of the delays that a generator waits for.
@@ -99,6 +101,7 @@ module _ (d : Design) (limit : ℕ) where
   pub data Runs : Moment → Result End SimFault → List Line → List Row → Moment → Type 0 where
     quiet : {m n : Moment} {own : List Line} → Settles d m AtRest own n → next_time n.state ≡ None → Runs m (Ok «end».Quiet) own (row_of m.state n.state) (at_time limit n)
     reached : {m n : Moment} {own : List Line} {u : ℕ} → Settles d m AtRest own n → next_time n.state ≡ Some u → limit < u → Runs m (Ok «end».Reached) own (row_of m.state n.state) (at_time limit n)
-    goes_on : {m n after : Moment} {own more : List Line} {rows : List Row} {u : ℕ} {r : Result End SimFault} → Settles d m AtRest own n → next_time n.state ≡ Some u → u ≤ limit → Runs (at_time u n) r more rows after → Runs m r (own ++ more) (row_of m.state n.state ++ rows) after
+    goes_on : {m n after : Moment} {own more : List Line} {rows : List Row} {u : ℕ} {r : Result End SimFault} → Settles d m AtRest own n →
+        next_time n.state ≡ Some u → u ≤ limit → Runs (at_time u n) r more rows after → Runs m r (own ++ more) (row_of m.state n.state ++ rows) after
     stopped : {m n : Moment} {own : List Line} → Settles d m Stops own n → Runs m (Ok «end».Stopped) own (row_of m.state n.state) n
     failed : {m n : Moment} {own : List Line} {f : SimFault} → Settles d m (Fails f) own n → Runs m (Err f) own (row_of m.state n.state) n

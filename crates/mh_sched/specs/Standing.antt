@@ -77,9 +77,13 @@ module _ (d : Design) where
   -- One call of a delta.
   pub data DeltaCall : Standing → Result Delta SimFault → Standing → Type 0 where
     quiet : {m : Moment} → is_due d m.state ≡ false → DeltaCall (Between m) (Ok delta.Quiet) (Between m)
-    exceeds : {m : Moment} → is_due d m.state ≡ true → delta_limit ≤ m.deltas → DeltaCall (Between m) (Err (too_many_deltas m.state.time)) (Over (Fails (too_many_deltas m.state.time)) m.state.signals.values)
-    begins : {m : Moment} {r : Reply} {qs : List Process} {t : Signals} → is_due d m.state ≡ true → m.deltas < delta_limit → Passes d m.state.time 0 d.generators m.state.processes m.state.signals r qs t → DeltaCall (Between m) (answer_of m.state.time r) (left_by m r qs t)
-    goes_on : {m : Moment} {g n : ℕ} {r : Reply} {qs : List Process} {t : Signals} → GoesOn d m.state.time g n 0 d.generators m.state.processes m.state.signals r qs t → DeltaCall (Inside m g n) (answer_of m.state.time r) (left_by m r qs t)
+    exceeds : {m : Moment} → is_due d m.state ≡ true → delta_limit ≤ m.deltas →
+        DeltaCall (Between m) (Err (too_many_deltas m.state.time)) (Over (Fails (too_many_deltas m.state.time)) m.state.signals.values)
+    begins : {m : Moment} {r : Reply} {qs : List Process} {t : Signals} → is_due d m.state ≡ true → m.deltas < delta_limit →
+        Passes d m.state.time 0 d.generators m.state.processes m.state.signals r qs t → DeltaCall (Between m) (answer_of m.state.time r) (left_by m r qs t)
+    goes_on : {m : Moment} {g n : ℕ} {r : Reply} {qs : List Process} {t : Signals} →
+        GoesOn d m.state.time g n 0 d.generators m.state.processes m.state.signals r qs t →
+        DeltaCall (Inside m g n) (answer_of m.state.time r) (left_by m r qs t)
     stopped : {vs : List ℤ} → DeltaCall (Over Stops vs) (Ok delta.Stopped) (Over Stops vs)
     failed : {f : SimFault} {vs : List ℤ} → DeltaCall (Over (Fails f) vs) (Err f) (Over (Fails f) vs)
 
@@ -123,7 +127,8 @@ module _ (d : Design) (limit : ℕ) where
   pub data Follows : Close → Moment → Result End SimFault → List Line → List Row → Moment → Type 0 where
     quiet : {n : Moment} → next_time n.state ≡ None → Follows AtRest n (Ok «end».Quiet) [] [] (at_time limit n)
     reached : {n : Moment} {u : ℕ} → next_time n.state ≡ Some u → limit < u → Follows AtRest n (Ok «end».Reached) [] [] (at_time limit n)
-    later : {n after : Moment} {u : ℕ} {r : Result End SimFault} {ls : List Line} {rows : List Row} → next_time n.state ≡ Some u → u ≤ limit → Runs d limit (at_time u n) r ls rows after → Follows AtRest n r ls rows after
+    later : {n after : Moment} {u : ℕ} {r : Result End SimFault} {ls : List Line} {rows : List Row} → next_time n.state ≡ Some u → u ≤ limit →
+        Runs d limit (at_time u n) r ls rows after → Follows AtRest n r ls rows after
     stops : {n : Moment} → Follows Stops n (Ok «end».Stopped) [] [] n
     fails : {n : Moment} {f : SimFault} → Follows (Fails f) n (Err f) [] [] n
 
@@ -131,7 +136,9 @@ module _ (d : Design) (limit : ℕ) where
   pub data RunCall : Standing → Result End SimFault → List Line → List Row → Standing → Type 0 where
     between : {m n : Moment} {r : Result End SimFault} {ls : List Line} {rows : List Row} → Runs d limit m r ls rows n → RunCall (Between m) r ls rows (left_after r n)
     goes_on : {m n after : Moment} {g k : ℕ} {own more ls : List Line} {qs : List Process} {t : Signals} {c : Close} {r : Result End SimFault} {rows : List Row} → Rest d m.state.time g k 0 d.generators m.state.processes m.state.signals Done own qs t → Settles d (full_delta m qs t) c more n → Follows c n r ls rows after → RunCall (Inside m g k) r (own ++ (more ++ ls)) (row_of m.state n.state ++ rows) (left_after r after)
-    breaks : {m : Moment} {g k i : ℕ} {e : Ending} {own : List Line} {qs : List Process} {t : Signals} → Rest d m.state.time g k 0 d.generators m.state.processes m.state.signals (BrokenOff i e) own qs t → RunCall (Inside m g k) (end_of (close_of m.state.time e)) own [] (Over (close_of m.state.time e) m.state.signals.values)
+    breaks : {m : Moment} {g k i : ℕ} {e : Ending} {own : List Line} {qs : List Process} {t : Signals} →
+        Rest d m.state.time g k 0 d.generators m.state.processes m.state.signals (BrokenOff i e) own qs t →
+        RunCall (Inside m g k) (end_of (close_of m.state.time e)) own [] (Over (close_of m.state.time e) m.state.signals.values)
     stopped : {vs : List ℤ} → RunCall (Over Stops vs) (Ok «end».Stopped) [] [] (Over Stops vs)
     failed : {f : SimFault} {vs : List ℤ} → RunCall (Over (Fails f) vs) (Err f) [] [] (Over (Fails f) vs)
 

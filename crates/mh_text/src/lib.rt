@@ -6,6 +6,7 @@
 
 mod code;
 mod cursor;
+mod fault;
 mod laws;
 mod memory;
 mod number;
@@ -19,6 +20,7 @@ mod text;
 
 pub use code::Code;
 pub use cursor::Cursor;
+pub use fault::{CodeAt, Fault};
 pub use laws::{found_has_its_spelling, nothing_has_the_spelling, spelling_finds_its_row};
 pub use memory::Memory;
 pub use number::put_number;

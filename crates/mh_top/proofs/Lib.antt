@@ -5,4 +5,3 @@ pub mod RunLaws
 pub mod ConvertLaws
 pub mod SpeechLaws
 pub mod SimLaws
-pub mod DriveLaws

@@ -2,17 +2,24 @@
 use Rattle.std.proofs.Common.{ℕ, List, [], ◌∷◌, ◌≡◌, ◌≢◌, ◌&&◌, Bool, true, false, not, eqb, length, get_or, codes, sym, ap, subst, ◌∙◌, arith}
 use Rattle.std.proofs.lemmas.Bool.{and_parts, not-true, true≢false, false_from_ne_true, eq-eqb, ne_eqb}
 use Rattle.std.proofs.lemmas.Slice.Eq.{bytes_eq-Decides}
-use Rattle.std.specs.Str.{bytes_eq}
+use Rattle.std.proofs.lemmas.Str.{IsUtf8-from_is_utf8, is_utf8-from_IsUtf8}
+use Rattle.std.specs.Str.{bytes_eq, is_utf8}
 use Rattle.mh_top.specs.CommandOf.{are_convert, are_sim, is_file_name}
 use Rattle.mh_top.specs.Words.{Convert, Sim, GivesNone, IsConvert, IsFileName, IsSim}
 
+and_true : (x y : Bool) → x ≡ true → y ≡ true → (x && y) ≡ true
+and_true x y p q = ap (λ b. b && y) p ∙ q
+
 file_name : (word : List ℕ) → is_file_name word ≡ true → IsFileName word
 file_name [] h = absurd (true≢false (sym h))
-file_name (first ∷ rest) h = λ same. true≢false (sym (eq-eqb first 45 same) ∙ not-true (eqb first 45) h)
+file_name (first ∷ rest) h =
+    let parts = and_parts (not (eqb first 45)) (is_utf8 (first ∷ rest)) h in
+    (λ same. true≢false (sym (eq-eqb first 45 same) ∙ not-true (eqb first 45) parts.0), IsUtf8-from_is_utf8 (first ∷ rest) parts.1)
 
 file_name_back : (word : List ℕ) → IsFileName word → is_file_name word ≡ true
 file_name_back [] h = absurd h
-file_name_back (first ∷ rest) h = ap not (ne_eqb first 45 h)
+file_name_back (first ∷ rest) h =
+    and_true (not (eqb first 45)) (is_utf8 (first ∷ rest)) (ap not (ne_eqb first 45 h.0)) (is_utf8-from_IsUtf8 (first ∷ rest) h.1)
 
 -- words that pass the test
 pub convert_given : (words : List (List ℕ)) (verb file option out : List ℕ) → words ≡ verb ∷ file ∷ option ∷ out ∷ [] → are_convert verb file option out ≡ true → IsConvert words file out
@@ -30,9 +37,6 @@ convert_given words verb file option out shape h =
       text = file_name out text.1;
       differ = λ same. true≢false (sym ((bytes_eq-Decides file out).1 same) ∙ not-true (bytes_eq file out) differ.1);
     }
-
-and_true : (x y : Bool) → x ≡ true → y ≡ true → (x && y) ≡ true
-and_true x y p q = ap (λ b. b && y) p ∙ q
 
 -- the words of the command pass the test
 given_passes : (verb file option out file' out' : List ℕ) → IsConvert (verb ∷ file ∷ option ∷ out ∷ []) file' out' → are_convert verb file option out ≡ true

@@ -1,13 +1,13 @@
 -- How the program tells the commands apart. This serves the proof alone: which words give which command is said by `Gives`.
 use Rattle.std.specs.Prelude.{ℕ, List, [], ◌∷◌, ◌==◌, ◌&&◌, Bool, false, not, codes}
-use Rattle.std.specs.Str.{bytes_eq}
+use Rattle.std.specs.Str.{bytes_eq, is_utf8}
 use Rattle.mh_top.specs.Words.{GivesNone, IsConvert, IsSim}
 use Rattle.mh_top.specs.declared.command.Command.{Command}
 use Rattle.mh_top.specs.declared.command.Command.TheVariants as command
 
 abbrev pub is_file_name : List ℕ → Bool
 is_file_name [] = false
-is_file_name (first ∷ rest) = not (first == 45)
+is_file_name (first ∷ rest) = not (first == 45) && is_utf8 (first ∷ rest)
 
 abbrev pub are_convert : List ℕ → List ℕ → List ℕ → List ℕ → Bool
 are_convert verb file option out =

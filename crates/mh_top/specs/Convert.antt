@@ -63,7 +63,8 @@ pub data ConvertEnds (file out : List ℕ) (run : Run) (status : ℕ) (line : Li
   -- the text is stored, and no call failed
   done : status ≡ DONE → line ≡ [] → IsFaultFree run → Told (HasConverted file out) run.before run.after → ConvertEnds file out run status line
   -- the source has no tokens or no tree, or is of no form that is converted
-  refused : (code : Code) (number : ℕ) → status ≡ REFUSED → line ≡ refusal_line code number → IsFaultFree run → Told (HasRefused file code number) run.before run.after → ConvertEnds file out run status line
+  refused : (code : Code) (number : ℕ) → status ≡ REFUSED → line ≡ refusal_line code number → IsFaultFree run →
+      Told (HasRefused file code number) run.before run.after → ConvertEnds file out run status line
   -- the source wasn't fetched
   unfetched : status ≡ SHELF → line ≡ shelf_line file → HasFailedFetch run → KeepsNames run → ConvertEnds file out run status line
   -- the text wasn't stored

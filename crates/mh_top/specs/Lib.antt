@@ -1,7 +1,6 @@
 pub mod CommandOf
 pub mod Commands
 pub mod Convert
-pub mod Driving
 pub mod Emission
 pub mod Lines
 pub mod Pieces

@@ -54,7 +54,8 @@ pub data IsRunIn (plans : List Plan) (requests : List Request) (s : Step) : Type
 abbrev pub IsSimulated : List ℕ → Step → Type 0
 IsSimulated source (Print text l) = (e : End) × RunEnds source (Ok e) text.items × (l.items ≡ printing_line)
 IsSimulated source (Fail text l code) =
-    (c : Code) × (time number : ℕ) × (v low high : ℤ) × RunEnds source (Err (simfault.At c time number v low high)) text.items × (l.items ≡ fault_line c time number v low high) × (code ≡ status_of_fault c)
+    (c : Code) × (time number : ℕ) × (v low high : ℤ) × RunEnds source (Err (simfault.At c time number v low high)) text.items ×
+    (l.items ≡ fault_line c time number v low high) × (code ≡ status_of_fault c)
 IsSimulated source (Refuse l) = (c : Code) × (number : ℕ) × IsUnrunFor source c number × (l.items ≡ refusal_line c number)
 
 -- The text, or a front of it, stands in the output, and nothing else changed.
@@ -76,7 +77,8 @@ pub record HasPrinted (text : List ℕ) (done : Bool) (run : Run) : Type 0 where
 pub data SourceRunEnds (source : List ℕ) (run : Run) (status : ℕ) (text line : List ℕ) : Type 0 where
   done : (e : End) → status ≡ DONE → line ≡ [] → IsFaultFree run → RunEnds source (Ok e) text → SourceRunEnds source run status text line
   unprinted : (e : End) → status ≡ SHELF → line ≡ printing_line → text ≢ [] → HasFailedPrint run → RunEnds source (Ok e) text → SourceRunEnds source run status text line
-  failed : (c : Code) (time number : ℕ) (v low high : ℤ) → status ≡ status_of_fault c → line ≡ fault_line c time number v low high → PrintsAtMost text run → RunEnds source (Err (simfault.At c time number v low high)) text → SourceRunEnds source run status text line
+  failed : (c : Code) (time number : ℕ) (v low high : ℤ) → status ≡ status_of_fault c → line ≡ fault_line c time number v low high → PrintsAtMost text run →
+      RunEnds source (Err (simfault.At c time number v low high)) text → SourceRunEnds source run status text line
   refused : (c : Code) (number : ℕ) → status ≡ REFUSED → text ≡ [] → line ≡ refusal_line c number → IsFaultFree run → IsUnrunFor source c number → SourceRunEnds source run status text line
   no_memory : status ≡ MEMORY → text ≡ [] → line ≡ memory_line → IsFaultFree run → SourceRunEnds source run status text line
 

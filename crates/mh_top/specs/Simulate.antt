@@ -52,9 +52,11 @@ pub data SimEnds (file : List ℕ) (run : Run) (status : ℕ) (text line : List 
   -- the run met no fault, and its lines weren't printed
   unprinted : (e : End) → status ≡ SHELF → line ≡ printing_line → text ≢ [] → HasFailedPrint run → Holds file (λ source. RunEnds source (Ok e) text) run → SimEnds file run status text line
   -- the run met a fault, after the lines before it, also where these weren't printed
-  failed : (c : Code) (time number : ℕ) (v low high : ℤ) → status ≡ status_of_fault c → line ≡ fault_line c time number v low high → PrintsAtMost text run → Holds file (λ source. RunEnds source (Err (simfault.At c time number v low high)) text) run → SimEnds file run status text line
+  failed : (c : Code) (time number : ℕ) (v low high : ℤ) → status ≡ status_of_fault c → line ≡ fault_line c time number v low high → PrintsAtMost text run →
+      Holds file (λ source. RunEnds source (Err (simfault.At c time number v low high)) text) run → SimEnds file run status text line
   -- the source asks for no run, or for one that isn't done
-  refused : (c : Code) (number : ℕ) → status ≡ REFUSED → text ≡ [] → line ≡ refusal_line c number → IsFaultFree run → Holds file (λ source. IsUnrunFor source c number) run → SimEnds file run status text line
+  refused : (c : Code) (number : ℕ) → status ≡ REFUSED → text ≡ [] → line ≡ refusal_line c number → IsFaultFree run →
+      Holds file (λ source. IsUnrunFor source c number) run → SimEnds file run status text line
   -- the source wasn't fetched
   unfetched : status ≡ SHELF → text ≡ [] → line ≡ shelf_line file → HasFailedFetch run → SimEnds file run status text line
   -- memory was wanting, maybe for the line of a fetch that failed
@@ -65,7 +67,8 @@ pub data SimEnds (file : List ℕ) (run : Run) (status : ℕ) (text line : List 
 -- Which status comes for what a run of a design comes to.
 pub record OutcomeFits (d : Design) (n status : ℕ) : Type 0 where
   pub done : (e : End) (text : List ℕ) → is_well_formed d ≡ true → first_inout d d.generators ≡ None → Ran d n (Ok e) text → IsOrMemory status DONE
-  pub failed : (c : Code) (time number : ℕ) (v low high : ℤ) (text : List ℕ) → is_well_formed d ≡ true → first_inout d d.generators ≡ None → Ran d n (Err (simfault.At c time number v low high)) text → IsOrMemory status (status_of_fault c)
+  pub failed : (c : Code) (time number : ℕ) (v low high : ℤ) (text : List ℕ) → is_well_formed d ≡ true → first_inout d d.generators ≡ None →
+      Ran d n (Err (simfault.At c time number v low high)) text → IsOrMemory status (status_of_fault c)
   pub refused : (number : ℕ) → is_well_formed d ≡ true → first_inout d d.generators ≡ Some number → IsOrMemory status REFUSED
 
 -- A source asks for a run of a design whose outcome the status fits.

@@ -44,7 +44,8 @@ pub record Asks (source : List ℕ) (d : Design) (n : ℕ) : Type 0 where
 -- drives.
 pub data IsUnrunFor (source : List ℕ) (code : Code) (line : ℕ) : Type 0 where
   for_source : IsNotMadeFor source code line → IsUnrunFor source code line
-  for_request : (plans : List Plan) (requests : List Request) → code ≡ C1NoTop → line ≡ 0 → Elaborates source (Ok (plans, requests)) → run_at plans (first_run requests) ≡ None → IsUnrunFor source code line
+  for_request : (plans : List Plan) (requests : List Request) → code ≡ C1NoTop → line ≡ 0 → Elaborates source (Ok (plans, requests)) →
+      run_at plans (first_run requests) ≡ None → IsUnrunFor source code line
   for_inout : (d : Design) (n : ℕ) → code ≡ C7Inout → Asks source d n → is_well_formed d ≡ true → first_inout d d.generators ≡ Some line → IsUnrunFor source code line
 
 -- A run of a design from its start up to a time ends so, and prints this text.

@@ -71,7 +71,8 @@ pub data IsNotMadeFor (source : List ℕ) (code : Code) (line : ℕ) : Type 0 wh
 pub data IsRefusedFor (source : List ℕ) (code : Code) (line : ℕ) : Type 0 where
   for_source : IsNotMadeFor source code line → IsRefusedFor source code line
   for_request : (plans : List Plan) (requests : List Request) → code ≡ C1NoTop → line ≡ 0 → Elaborates source (Ok (plans, requests)) → first_conversion requests ≡ None → IsRefusedFor source code line
-  for_form : (plans : List Plan) (requests : List Request) (top : ℕ) → code ≡ N1NotYet → line ≡ 0 → Elaborates source (Ok (plans, requests)) → first_conversion requests ≡ Some top → gate_at plans top ≡ None → IsRefusedFor source code line
+  for_form : (plans : List Plan) (requests : List Request) (top : ℕ) → code ≡ N1NotYet → line ≡ 0 → Elaborates source (Ok (plans, requests)) →
+      first_conversion requests ≡ Some top → gate_at plans top ≡ None → IsRefusedFor source code line
 
 -- A source spells no design that is converted.
 abbrev pub SpellsNone : List ℕ → Type 0

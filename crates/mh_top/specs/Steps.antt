@@ -72,7 +72,8 @@ pub record StoresText (done : Bool) (source out : List ℕ) (before after : Seen
 -- The ends of a conversion whose source is fetched.
 pub data SourceEnds (source out : List ℕ) (run : Run) (status : ℕ) (line : List ℕ) : Type 0 where
   done : status ≡ DONE → line ≡ [] → IsFaultFree run → (d : Design) → SpellsOnly source d → Told (StoresText true source out) run.before run.after → SourceEnds source out run status line
-  refused : (code : Code) (number : ℕ) → status ≡ REFUSED → line ≡ refusal_line code number → IsFaultFree run → IsRefusedFor source code number → SpellsNone source → KeepsNames run → SourceEnds source out run status line
+  refused : (code : Code) (number : ℕ) → status ≡ REFUSED → line ≡ refusal_line code number → IsFaultFree run → IsRefusedFor source code number →
+      SpellsNone source → KeepsNames run → SourceEnds source out run status line
   unstored : status ≡ SHELF → line ≡ shelf_line out → HasFailedStore run → Told (StoresText false source out) run.before run.after → SourceEnds source out run status line
   no_memory : status ≡ MEMORY → line ≡ memory_line → IsFaultFree run → KeepsNames run → SourceEnds source out run status line
 

@@ -1,5 +1,6 @@
 -- The commands of `myhdl`, and the words that give them. These rules are this project's own.
 use Rattle.std.specs.Prelude.{ℕ, List, [], ◌∷◌, ◌≡◌, ◌≢◌, codes}
+use Rattle.std.specs.Str.{IsUtf8}
 
 -- What the program is asked to do.
 pub data Command : Type 0 where
@@ -8,10 +9,10 @@ pub data Command : Type 0 where
   -- run what the source that `file` holds asks to run, and print its lines
   Sim : (file : List ℕ) → Command
 
--- The name of a file isn't empty and doesn't begin with a hyphen.
+-- The name of a file isn't empty, doesn't begin with a hyphen and is UTF-8. So a word that isn't UTF-8 gives no command.
 abbrev pub IsFileName : List ℕ → Type 0
 IsFileName [] = ⊥
-IsFileName (first ∷ rest) = first ≢ 45
+IsFileName (first ∷ rest) = (first ≢ 45) × IsUtf8 (first ∷ rest)
 
 -- `convert FILE --verilog OUT`, with two different names.
 pub record IsConvert (words : List (List ℕ)) (file out : List ℕ) : Type 0 where

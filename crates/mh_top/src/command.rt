@@ -1,6 +1,7 @@
 //! The words of the command line.
 
 ghost use Rattle.std.specs.Prelude.{◌≡◌, length};
+ghost use Rattle.std.specs.Str.{is_utf8};
 ghost use Rattle.mh_top.specs.CommandOf.{are_convert, are_sim, is_file_name as is_name, IsCommandOf};
 
 use mh_text::Text;
@@ -15,13 +16,23 @@ pub(crate) enum Command<'a> {
     Unknown,
 }
 
-/// Whether a word is the name of a file: it isn't empty and doesn't begin with a hyphen.
+/// Whether a word is UTF-8.
+fn is_text(word: &[u8]) -> bool
+    ensures { result ≡ is_utf8 word.now }
+{
+    match std::str::from_utf8(word) {
+        Ok(_) => true,
+        Err(_) => false,
+    }
+}
+
+/// Whether a word is the name of a file: it isn't empty, doesn't begin with a hyphen and is UTF-8.
 fn is_file_name(word: &[u8]) -> bool
     ensures { result ≡ is_name word.now }
 {
     match word {
         [] => false,
-        [first, ..] => *first != b'-',
+        [first, ..] => *first != b'-' && is_text(word),
     }
 }
 

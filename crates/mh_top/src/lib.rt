@@ -7,7 +7,6 @@ mod command;
 mod commands;
 mod complaint;
 mod convert;
-mod drive;
 mod lines;
 mod sim;
 mod source;

@@ -11,7 +11,6 @@ ghost use Rattle.mh_top.specs.Words as words;
 
 use crate::complaint::{complain, complain_of, complain_of_memory};
 use crate::convert::SOURCE_LIMIT;
-use crate::drive::run_to;
 use crate::status::Status;
 use crate::{lines, source};
 use mh_design::{Design, inout};
@@ -100,8 +99,8 @@ fn run_up_to(alloc: Global, d: &Design, n: u64) -> Result<Step, Memory>
 {
     let mut sim = Sim::prepare(alloc, d)?;
     let mut text = Vec::new(alloc);
-    match run_to(&mut sim, n, &mut text) {
-        Ok(()) => Ok(Step::Print {
+    match sim.run_until(n, &mut text) {
+        Ok(_) => Ok(Step::Print {
             text,
             fault: lines::of_printing(alloc)?,
         }),

@@ -1,11 +1,8 @@
-//! Tests of the commands: the worked examples, byte for byte, over a shelf in memory.
+//! Unit tests of the shelves and of the commands: what no case of `mh_cases` can show, since the cases run over a shelf in
+//! memory, or since it is a size. Each test says which.
 #![tactic(auto)]
 
 #[cfg(test)]
-mod convert_tests;
-#[cfg(test)]
-mod examples;
+mod commands;
 #[cfg(test)]
 mod shelves;
-#[cfg(test)]
-mod sim_tests;

@@ -1,7 +1,7 @@
 use Rattle.std.proofs.Common.{◌≡◌, ◌++◌, arith, ap, sym, ◌∙◌, ◌+◌, subst, length, slice_index_or}
 use Rattle.std.specs.Prelude.{reverse, ◌==◌}
 use Rattle.mh_flat.specs.declared.code.Extent.{Extent}
-use Rattle.mh_flat.specs.Flow.{IfStatement, Then, End, size, block_size}
+use Rattle.mh_flow.specs.Flow.{IfStatement, Then, End, size, block_size}
 use Rattle.mh_flat.specs.Body.{statement_of, block_of}
 use Rattle.mh_flat.specs.Stands.{first, begun}
 use Rattle.mh_flat.specs.Flat.{block_instructions}

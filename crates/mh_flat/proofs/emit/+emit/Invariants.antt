@@ -1,6 +1,6 @@
 use Rattle.std.proofs.Common.{◌+◌, ◌*◌, vec_len}
 use Rattle.std.specs.Prelude.{reverse}
-use Rattle.mh_flat.specs.Flow.{size, block_size}
+use Rattle.mh_flow.specs.Flow.{size, block_size}
 use Rattle.mh_flat.specs.Body.{statement_of, block_of}
 use Rattle.mh_flat.specs.Parts.{statement_of_parts}
 use Rattle.mh_flat.proofs.Emission.{BlockEmitted, ChainEmitted}

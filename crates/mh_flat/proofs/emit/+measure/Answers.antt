@@ -1,5 +1,5 @@
 use Rattle.std.proofs.Common.{◌≡◌, arith, ap, ◌∙◌, ◌++◌, length, sym}
-use Rattle.mh_flat.specs.Flow.{block_size}
+use Rattle.mh_flow.specs.Flow.{block_size}
 use Rattle.mh_flat.specs.Body.{statement_of, block_of, statement_if, statement_while, statement_count}
 use Rattle.mh_flat.specs.Extents.{block_extents, extents_of}
 use Rattle.mh_flat.proofs.Bodies.{size_if, size_while, size_count}

@@ -1,5 +1,5 @@
 use Rattle.std.proofs.Common.{◌+◌, ◌*◌, drop}
-use Rattle.mh_flat.specs.Flow.{size, block_size}
+use Rattle.mh_flow.specs.Flow.{size, block_size}
 use Rattle.mh_flat.specs.Body.{statement_of, block_of}
 use Rattle.mh_flat.proofs.Measures.{BlockLeft, ChainLeft}
 use Rattle.mh_flat.proofs.emit.+measure.Given as goal

@@ -1,5 +1,5 @@
 use Rattle.std.proofs.Common.{◌≡◌, ◌++◌, length, ap, sym, ◌∙◌, subst}
-use Rattle.mh_flat.specs.Flow.{block_size}
+use Rattle.mh_flow.specs.Flow.{block_size}
 use Rattle.mh_flat.specs.Body.{block_of}
 use Rattle.mh_flat.specs.Extents.{HasAt, block_extents}
 use Rattle.mh_flat.proofs.Measures.{has_all, length_extents}

@@ -1,5 +1,5 @@
 use Rattle.std.proofs.Common.{List}
-use Rattle.mh_flat.specs.Flow.{Item}
+use Rattle.mh_flow.specs.Flow.{Item}
 use Rattle.mh_flat.specs.Fits.{FitsItems}
 use Rattle.mh_flat.specs.Stands.{StandsFor}
 use Rattle.mh_flat.proofs.Turns.{SoFar, measure}

@@ -1,5 +1,5 @@
 use Rattle.std.proofs.Common.{◌+◌, ◌*◌, ◌≡◌, map, refl, ap, sym, ◌∙◌, arith}
-use Rattle.mh_flat.specs.Flow as flow
+use Rattle.mh_flow.specs.Flow as flow
 use Rattle.mh_design.specs.Tree as tree
 use Rattle.mh_design.specs.Tree.{expression_of, statement_of, arm_of, block, arms}
 use Rattle.mh_design.specs.declared.statement.Binding.TheVariants as binding

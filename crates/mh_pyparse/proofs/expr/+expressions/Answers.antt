@@ -1,4 +1,4 @@
-use Rattle.std.proofs.Common.{◌≡◌, ◌-◌, [], ap}
+use Rattle.std.proofs.Common.{[]}
 use Rattle.std.proofs.lemmas.Result.{err_from_is_err_and}
 use Rattle.mh_reader.specs.Reader.{many}
 use Rattle.mh_reader.proofs.Turns.{loop_err, loop_done, loop_again}

@@ -1,4 +1,4 @@
-use Rattle.std.proofs.Common.{◌≡◌, ℕ, ◌+◌, ◌*◌, ◌≤◌, length, []}
+use Rattle.std.proofs.Common.{◌≡◌, length, []}
 use Rattle.mh_reader.specs.Reader.{many}
 use Rattle.mh_pyparse.specs.ReadingStatements as spec
 use Rattle.mh_pyparse.proofs.small.names.Given as goal

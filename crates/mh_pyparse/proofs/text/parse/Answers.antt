@@ -1,9 +1,8 @@
-use Rattle.std.proofs.Common.{◌≡◌, ℕ, List, Ok, Err, inl, inr, refl, sym, ap, ◌∙◌, subst}
-use Rattle.mh_reader.specs.Reader.{first_of}
+use Rattle.std.proofs.Common.{◌≡◌, ℕ, List, Ok, Err, inl, sym, ap, ◌∙◌, subst}
 use Rattle.mh_text.specs.declared.code.Code.TheVariants.{S1Syntax}
 use Rattle.mh_pytok.specs.Lexeme.{Lexeme, lexemes}
 use Rattle.mh_pyparse.specs.Claims.{Refuses}
-use Rattle.mh_pyparse.specs.ReadingStatements.{text, line_at}
+use Rattle.mh_pyparse.specs.ReadingStatements.{text}
 use Rattle.mh_pyparse.proofs.SoundStatements.{text_sound}
 use Rattle.mh_pyparse.proofs.Refuse.{ends_once, refuses, was_refused, only_tree, not_refused}
 use Rattle.mh_pyparse.proofs.Names.{are_named, text_named}
