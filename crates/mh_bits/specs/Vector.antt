@@ -1,5 +1,5 @@
 -- Vectors of bits 0, 1 and x.
-use Rattle.std.specs.Prelude.{ℕ, zero, suc, ◌+◌, ◌-◌, ◌*◌, ◌^◌, ◌<◌, ◌≤◌, ◌≡◌, ◌==◌, Bool, false, ◌||◌, bit_and}
+use Rattle.std.specs.Prelude.{ℕ, zero, suc, ◌+◌, ◌-◌, ◌*◌, ◌^◌, ◌<◌, ◌≤◌, ◌≡◌, ◌==◌, Bool, false, ◌||◌, bit_and, nat_lt, if◌then◌else◌}
 use Rattle.std.specs.Int.{bit_at}
 
 -- A bit: 0, 1 or x (IEEE 1364-2005, 4.1). There is no z, which no text that this project reads or
@@ -72,3 +72,7 @@ all_unknown w = vector_from w 0 (2 ^ w - 1)
 -- No bit of a vector is x.
 abbrev pub is_known : Vector → Bool
 is_known v = v.unk == 0
+
+-- The vector with one bit more, below the others.
+abbrev pub appended : Vector → Bit → Vector
+appended v b = gathered (v.width + 1) (λ k. if nat_lt k 1 then b else bit v (k - 1))

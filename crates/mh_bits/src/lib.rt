@@ -7,6 +7,7 @@ ghost use Rattle.std.specs.Prelude.{◌≡◌};
 ghost use Rattle.mh_bits.specs.Operators.{binary_of, unary_of, WidthsFit};
 ghost use Rattle.mh_bits.specs.View.{vector_of};
 
+mod digits;
 mod laws;
 mod moves;
 mod numbers;
@@ -15,6 +16,7 @@ mod values;
 mod vectors;
 mod words;
 
+pub use digits::{appended, bit};
 pub use laws::{
     absorption_laws, arithmetic_laws, bit_laws, known_laws, number_laws, part_laws, truth_laws,
     width_laws,
@@ -22,7 +24,8 @@ pub use laws::{
 pub use moves::{cat, extend, select};
 pub use tables::truth;
 pub use values::{BinOp, Bits, UnOp};
-use vectors::{single, where_known};
+use vectors::where_known;
+pub use vectors::{all_unknown, known, single};
 
 /// The value of `a op b` for operands of one width, a shift's amount `b` excepted: it has a width
 /// of its own, and is never read as signed. A comparison has one bit, and every other result has

@@ -169,8 +169,10 @@ module _ (d : Design) (g : Generator) where
   -- parts have a fault ends it.
   pub data Evaluation : Left → Store → ℕ → Ending → List (List Piece) → Left → Store → ℕ → Type 0 where
     ends : {xs ys : Left} {s t : Store} {n m : ℕ} {r : Resumed Fault} {e : Ending} → Flows xs s n r ys t m → ending_of d g ys r ≡ Some e → Evaluation xs s n e [] ys t m
-    prints : {xs ys zs : Left} {s t u : Store} {n m p k : ℕ} {e : Ending} {line : List Piece} {more : List (List Piece)} → Flows xs s n (resumed.Says k) ys t m → pieces_of t (prints_at g k) ≡ Ok line → Evaluation ys t m e more zs u p → Evaluation xs s n e (line ∷ more) zs u p
-    fails : {xs ys : Left} {s t : Store} {n m k : ℕ} {f : Fault} → Flows xs s n (resumed.Says k) ys t m → pieces_of t (prints_at g k) ≡ Err f → Evaluation xs s n (InFault (line_at g k) (Faults f)) [] ys t m
+    prints : {xs ys zs : Left} {s t u : Store} {n m p k : ℕ} {e : Ending} {line : List Piece} {more : List (List Piece)} → Flows xs s n (resumed.Says k) ys t m →
+        pieces_of t (prints_at g k) ≡ Ok line → Evaluation ys t m e more zs u p → Evaluation xs s n e (line ∷ more) zs u p
+    fails : {xs ys : Left} {s t : Store} {n m k : ℕ} {f : Fault} → Flows xs s n (resumed.Says k) ys t m → pieces_of t (prints_at g k) ≡ Err f →
+        Evaluation xs s n (InFault (line_at g k) (Faults f)) [] ys t m
 
 -- What a generator waits for after its evaluation.
 abbrev pub waits_after : Design → Generator → Ending → List Wait
@@ -197,9 +199,15 @@ module _ (d : Design) (time : ℕ) where
   -- and the signals after. One that isn't woken stays as it is. Evaluations change pending values alone, so all see the same values.
   pub data Evaluations : ℕ → List Generator → List Process → Signals → Outcome → List (List Piece) → List Process → Signals → Type 0 where
     none : {k : ℕ} {s : Signals} → Evaluations k [] [] s Done [] [] s
-    rests : {k : ℕ} {g : Generator} {gs : List Generator} {p : Process} {ps qs : List Process} {s t : Signals} {o : Outcome} {lines : List (List Piece)} → is_woken s time p k ≡ false → Evaluations (k + 1) gs ps s o lines qs t → Evaluations k (g ∷ gs) (p ∷ ps) s o lines (p ∷ qs) t
-    evaluates : {k : ℕ} {g : Generator} {gs : List Generator} {p : Process} {ps qs : List Process} {s t : Signals} {o : Outcome} {own lines : List (List Piece)} {e : Ending} {left : Left} {u : Store} {n : ℕ} → is_woken s time p k ≡ true → Evaluation d g p.left (store_of s p) 0 e own left u n → goes_on e ≡ true → Evaluations (k + 1) gs ps (waiting u.signals k (waits_after d g e)) o lines qs t → Evaluations k (g ∷ gs) (p ∷ ps) s o (own ++ lines) (record { left = left; locals = u.locals; since = time } ∷ qs) t
-    breaks_off : {k : ℕ} {g : Generator} {gs : List Generator} {p : Process} {ps : List Process} {s : Signals} {own : List (List Piece)} {e : Ending} {left : Left} {u : Store} {n : ℕ} → is_woken s time p k ≡ true → Evaluation d g p.left (store_of s p) 0 e own left u n → goes_on e ≡ false → Evaluations k (g ∷ gs) (p ∷ ps) s (BrokenOff k e) own (p ∷ ps) s
+    rests : {k : ℕ} {g : Generator} {gs : List Generator} {p : Process} {ps qs : List Process} {s t : Signals} {o : Outcome} {lines : List (List Piece)} →
+        is_woken s time p k ≡ false → Evaluations (k + 1) gs ps s o lines qs t → Evaluations k (g ∷ gs) (p ∷ ps) s o lines (p ∷ qs) t
+    evaluates : {k : ℕ} {g : Generator} {gs : List Generator} {p : Process} {ps qs : List Process} {s t : Signals} {o : Outcome} {own lines : List
+        (List Piece)} {e : Ending} {left : Left} {u : Store} {n : ℕ} → is_woken s time p k ≡ true → Evaluation d g p.left (store_of s p) 0 e own left u n →
+        goes_on e ≡ true → Evaluations (k + 1) gs ps (waiting u.signals k (waits_after d g e)) o lines qs t →
+        Evaluations k (g ∷ gs) (p ∷ ps) s o (own ++ lines) (record { left = left; locals = u.locals; since = time } ∷ qs) t
+    breaks_off : {k : ℕ} {g : Generator} {gs : List Generator} {p : Process} {ps : List Process} {s : Signals} {own : List
+        (List Piece)} {e : Ending} {left : Left} {u : Store} {n : ℕ} → is_woken s time p k ≡ true → Evaluation d g p.left (store_of s p) 0 e own left u n →
+        goes_on e ≡ false → Evaluations k (g ∷ gs) (p ∷ ps) s (BrokenOff k e) own (p ∷ ps) s
 
 -- The state after the evaluations.
 abbrev pub after_of : State → Outcome → List Process → Signals → State

@@ -1,8 +1,8 @@
 -- The machine that the program holds isn't at its end before it says so.
 use Rattle.std.proofs.Common.{◌≡◌, ℕ, Result, Err, false, refl}
 use Rattle.mh_world.specs.World.{World, Broken}
-use Rattle.mh_world.specs.declared.fault.Fault.{Fault}
-use Rattle.mh_world.specs.declared.fault.Fault.TheVariants as fault
+use Rattle.mh_text.specs.declared.fault.Fault.{Fault}
+use Rattle.mh_text.specs.declared.fault.Fault.TheVariants as fault
 use Rattle.mh_elab.specs.Frames.{config, Executes, Steps}
 use Rattle.mh_elab.specs.Machine.{Config, step}
 use Rattle.mh_elab.specs.declared.waiting.Control.{Control}
@@ -18,6 +18,6 @@ not_final (c.Exec loop b) m = refl
 not_final (c.Ends f) m = refl
 
 -- where a step fails, the source does
-pub fails : (n : ℕ) (r : Result World Broken) (x : Config) (e : Fault) (m : Machine) → is_final x ≡ false → Steps (step x) (Err e) m → Left n r x → Executes r (Err e)
-fails n r x (fault.Broken code line) m f h l = answers n r x (Err (code, line)) f h l
+pub fails : (n : ℕ) (r : Result World Broken) (x : Config) (e : Fault Broken) (m : Machine) → is_final x ≡ false → Steps (step x) (Err e) m → Left n r x → Executes r (Err e)
+fails n r x (fault.Broken rule) m f h l = answers n r x (Err rule) f h l
 fails n r x fault.Memory m f h l = tt

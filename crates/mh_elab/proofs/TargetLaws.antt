@@ -1,7 +1,8 @@
 -- What stands on the left of assignments: several names, one by one, and what a target holds.
-use Rattle.std.proofs.Common.{◌≡◌, ℕ, suc, zero, ◌+◌, Bool, true, false, List, [], ◌∷◌, Option, Some, None, Err, refl, ap, ◌∙◌, length, is_some, slice_get, add-one}
+use Rattle.std.proofs.Common.{◌≡◌, ℕ, suc, zero, ◌+◌, Bool, true, false, List, [], ◌∷◌, Option, Some, None, Err, refl, sym, ap, ◌∙◌, length, is_some, slice_get, add-one}
 use Rattle.std.proofs.lemmas.Bool.{false≢true}
 use Rattle.mh_pytree.specs.declared.expression.PyExpr.{PyExpr}
+use Rattle.mh_pytree.specs.declared.expression.PyExpr.TheVariants as tree_of
 use Rattle.mh_text.specs.declared.code.Code.TheVariants.{E2NotElaborable, E10KindClash}
 use Rattle.mh_consts.specs.declared.kinds.Const.{Const}
 use Rattle.mh_consts.specs.Expression as x
@@ -10,10 +11,10 @@ use Rattle.mh_consts.proofs.Shapes.{ex-index}
 use Rattle.mh_world.specs.World.{World, after, given, pure, seeing}
 use Rattle.mh_world.specs.Heads.{computed_in}
 use Rattle.mh_world.specs.Lists.{items_of}
-use Rattle.mh_world.specs.Statements.{ToItem, name_of, names_of, to_names, with_name}
+use Rattle.mh_world.specs.Statements.{ToItem, name_of, names_of, target_of, target_step, to_names, with_name}
 use Rattle.mh_elab.specs.Elaboration.{held, is_target, put, unpack}
 use Rattle.mh_elab.specs.Views.{names_given}
-use Rattle.mh_elab.proofs.OutForms.{outs, parts-names, read-names}
+use Rattle.mh_elab.proofs.OutForms.{out-tuple, outs}
 
 -- ---- several names
 
@@ -43,6 +44,10 @@ pub put_names : (l : ℕ) (o : Option (List (List ℕ))) (v : Const) (us : List 
     put l (to_names o) v us w ≡ after (seeing l (items_of v) w) (λ x. unpack l (names_given o) x.0 x.1)
 put_names l None v us w h = cc
 put_names l (Some ts) v us w h = refl
+
+-- the target that a tuple of names is
+pub tuple_target : (target : PyExpr) (xs ys : List PyExpr) → target ≡ tree_of.Tuple xs → ys ≡ xs → target_of target ≡ to_names (names_of ys)
+tuple_target target xs ys h g = ap target_of h ∙ ap target_step (out-tuple xs) ∙ ap (λ (zs : List PyExpr). to_names (names_of zs)) (sym g)
 
 pub ruleset target_laws = (all-more, given-more)
 

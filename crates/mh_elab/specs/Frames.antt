@@ -1,13 +1,14 @@
 -- The machine as the program holds it.
 use Rattle.std.specs.Prelude.{◌≡◌, List, [], Option, Some, None, Result, Ok, Err, map, reverse}
+use Rattle.mh_text.specs.Faults.{Tells}
 use Rattle.mh_consts.specs.Expression as x
 use Rattle.mh_consts.specs.Expression.{ex_of}
 use Rattle.mh_pytree.specs.declared.statement.PyStmt.{PyStmt}
 use Rattle.mh_world.specs.Statements.{Block, block, choice_of, choices, fn_of, st_of, target_of}
 use Rattle.mh_world.specs.View.{world}
 use Rattle.mh_world.specs.World.{World, Broken}
-use Rattle.mh_world.specs.declared.fault.Fault.{Fault}
-use Rattle.mh_world.specs.declared.fault.Fault.TheVariants as fault
+use Rattle.mh_text.specs.declared.fault.Fault.{Fault}
+use Rattle.mh_text.specs.declared.fault.Fault.TheVariants as fault
 use Rattle.mh_world.specs.declared.state.State.{State}
 use Rattle.mh_elab.specs.Machine as machine
 use Rattle.mh_elab.specs.Machine.{Config, Eval, Give, Exec, Ends, Final}
@@ -68,20 +69,18 @@ config (c.Exec loop b) m = Exec m.calls loop (statements b.now) (kept m) (world 
 config (c.Ends flow) m = Ends m.calls flow (kept m) (world m.state)
 
 -- where a step leads, unless memory ran out
-abbrev pub Leads : Config → Result Control Fault → Machine → Type 0
+abbrev pub Leads : Config → Result Control (Fault Broken) → Machine → Type 0
 Leads x (Ok c) m = x ≡ config c m
-Leads x (Err (fault.Broken code line)) m = x ≡ Final (Err (code, line))
+Leads x (Err (fault.Broken rule)) m = x ≡ Final (Err rule)
 Leads x (Err fault.Memory) m = Unit {0}
 
 -- the same, where the machine may have come to its end
-abbrev pub Steps : Config → Result (Option Control) Fault → Machine → Type 0
+abbrev pub Steps : Config → Result (Option Control) (Fault Broken) → Machine → Type 0
 Steps x (Ok (Some c)) m = x ≡ config c m
 Steps x (Ok None) m = x ≡ Final (Ok (world m.state))
-Steps x (Err (fault.Broken code line)) m = x ≡ Final (Err (code, line))
+Steps x (Err (fault.Broken rule)) m = x ≡ Final (Err rule)
 Steps x (Err fault.Memory) m = Unit {0}
 
 -- what executing a source leaves, unless memory ran out
-abbrev pub Executes : Result World Broken → Result State Fault → Type 0
-Executes r (Ok s) = r ≡ Ok (world s)
-Executes r (Err (fault.Broken code line)) = r ≡ Err (code, line)
-Executes r (Err fault.Memory) = Unit {0}
+abbrev pub Executes : Result World Broken → Result State (Fault Broken) → Type 0
+Executes r x = Tells world r x

@@ -11,8 +11,8 @@ use Rattle.mh_design.specs.declared.design.Design.{Design}
 use Rattle.mh_design.specs.declared.design.Generator.{Generator}
 use Rattle.mh_lower.specs.Generators.{Read, read_of, IsNamed}
 use Rattle.mh_world.specs.World.{Bindings, Broken}
-use Rattle.mh_world.specs.declared.fault.Fault.{Fault}
-use Rattle.mh_world.specs.declared.fault.Fault.TheVariants as fault
+use Rattle.mh_text.specs.declared.fault.Fault.{Fault}
+use Rattle.mh_text.specs.declared.fault.Fault.TheVariants as fault
 use Rattle.mh_elab.specs.declared.kids.Kids.{Kids}
 use Rattle.mh_elab.specs.declared.kids.Kids.TheVariants as k
 
@@ -37,9 +37,9 @@ exs_of (k.Behind f xs) = x.More (ex_of f.now) (parts_of (map given_of xs.now))
 exs_of (k.Defaults vs) = exs (map expression_at vs.items)
 
 -- the generator of a definition, with the design after it, unless memory ran out
-abbrev pub ReadsAs : Result (Read × Design) Broken → FuncDef → Result Generator Fault → Design → Type 0
+abbrev pub ReadsAs : Result (Read × Design) Broken → FuncDef → Result Generator (Fault Broken) → Design → Type 0
 ReadsAs r f (Ok g) d = (r ≡ Ok (read_of g, d)) × IsNamed f g
-ReadsAs r f (Err (fault.Broken code line)) d = r ≡ Err (code, line)
+ReadsAs r f (Err (fault.Broken rule)) d = r ≡ Err rule
 ReadsAs r f (Err fault.Memory) d = Unit {0}
 
 -- names of MyHDL, with what they are bound to

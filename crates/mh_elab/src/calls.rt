@@ -11,8 +11,8 @@ ghost use Rattle.mh_world.specs.View.{called_of, world};
 use crate::waiting::{Control, Machine, Waiting, push};
 use mh_consts::{Builtin, Const};
 use mh_pytree::{Argument, PyExpr};
-use mh_text::Code;
-use mh_world::{Called, Fault, refuse};
+use mh_text::{Code, CodeAt, Fault};
+use mh_world::{Called, refuse};
 use sqlite_items::at;
 use std::alloc::Global;
 
@@ -28,7 +28,11 @@ fn behind(values: &[Const]) -> &[Const]
 
 /// A call begins, if one more may be open.
 #[tactic(auto, using(crate::proofs::TurnLaws::turns))]
-fn enter_call<'a>(alloc: Global, m: &mut Machine<'a>, d: Called<'a>) -> Result<Control<'a>, Fault>
+fn enter_call<'a>(
+    alloc: Global,
+    m: &mut Machine<'a>,
+    d: Called<'a>,
+) -> Result<Control<'a>, Fault<CodeAt>>
     ensures { Leads (spec.enter_call m.old.line m.old.calls (called_of d.entry) (kept m.old) (world m.old.state)) result m.new }
 {
     if m.calls == 0 {
@@ -50,7 +54,7 @@ fn call_function<'a>(
     i: u32,
     arguments: &[Argument],
     values: &[Const],
-) -> Result<Control<'a>, Fault>
+) -> Result<Control<'a>, Fault<CodeAt>>
     ensures { Leads (spec.call_function m.old.line m.old.calls i (keys_of (map given_of arguments.now)) values.now (kept m.old) (world m.old.state)) result m.new }
 {
     let d = m.state.callee(alloc, m.line, i, arguments, values)?;
@@ -65,7 +69,7 @@ fn call_builtin<'a>(
     builtin: Builtin,
     arguments: &[Argument],
     values: &[Const],
-) -> Result<Control<'a>, Fault>
+) -> Result<Control<'a>, Fault<CodeAt>>
     requires { heads.head_in (ex_of e.now) ≡ Some (x.Call (keys_of (map given_of arguments.now))) }
     ensures { Leads (spec.to (heads.call_builtin m.old.line builtin (keys_of (map given_of arguments.now)) values.now (world m.old.state)) (λ v w. spec.Give m.old.line m.old.calls v (kept m.old) w)) result m.new }
 {
@@ -84,7 +88,7 @@ fn call_value<'a>(
     f: &Const,
     arguments: &[Argument],
     values: &[Const],
-) -> Result<Control<'a>, Fault>
+) -> Result<Control<'a>, Fault<CodeAt>>
     requires { heads.head_in (ex_of e.now) ≡ Some (x.Call (keys_of (map given_of arguments.now))) }
     ensures { Leads (spec.call_value m.old.line m.old.calls (keys_of (map given_of arguments.now)) values.now (out-Const f.now) (kept m.old) (world m.old.state)) result m.new }
 {
@@ -116,7 +120,7 @@ pub(crate) fn call_first<'a>(
     e: &'a PyExpr,
     arguments: &[Argument],
     values: &[Const],
-) -> Result<Control<'a>, Fault>
+) -> Result<Control<'a>, Fault<CodeAt>>
     requires { heads.head_in (ex_of e.now) ≡ Some (x.Call (keys_of (map given_of arguments.now))) }
     ensures { Leads (spec.call_first m.old.line m.old.calls (keys_of (map given_of arguments.now)) values.now (slice_get values.now 0) (kept m.old) (world m.old.state)) result m.new }
 {

@@ -21,8 +21,8 @@ use mh_design::Generator;
 use mh_exprs::{Locals, is_local};
 use mh_lower::{collect_all, lower, no_locals};
 use mh_pytree::FuncDef;
-use mh_text::{Memory, Refusal, Text};
-use mh_world::{Fault, Made, State, refuse};
+use mh_text::{CodeAt, Fault, Memory, Refusal, Text};
+use mh_world::{Made, State, refuse};
 use std::alloc::Global;
 
 /// Adds what these names are bound to.
@@ -75,7 +75,11 @@ fn speak_of<'a>(
 }
 
 /// Reads the definition, in a state that holds what it may speak of.
-fn lowered<'a>(alloc: Global, state: &mut State<'a>, f: &FuncDef) -> Result<Generator, Fault>
+fn lowered<'a>(
+    alloc: Global,
+    state: &mut State<'a>,
+    f: &FuncDef,
+) -> Result<Generator, Fault<CodeAt>>
     ensures kept { world state.new ≡ spec.with_design state.new.design (world state.old) }
     ensures value { ReadsAs (def_of state.old.scope state.old.design f.now) f.now result state.new.design }
 {
@@ -112,7 +116,7 @@ fn freeze_reads<'a>(
 }
 
 /// The body of a generator is read.
-fn read_def<'a>(alloc: Global, state: &mut State<'a>, f: &FuncDef) -> Result<(), Fault>
+fn read_def<'a>(alloc: Global, state: &mut State<'a>, f: &FuncDef) -> Result<(), Fault<CodeAt>>
     ensures { Does same (spec.read_def (out-FuncDef f.now).line (out-FuncDef f.now).name (map ex_of (out-FuncDef f.now).marks) (map parameter_of (out-FuncDef f.now).params) (lines (map line_of (out-FuncDef f.now).body)) (world state.old)) result (world state.new) }
 {
     let mut names = Vec::new(alloc);
@@ -132,7 +136,7 @@ pub(crate) fn new_generator<'a>(
     alloc: Global,
     state: &mut State<'a>,
     f: &FuncDef,
-) -> Result<(), Fault>
+) -> Result<(), Fault<CodeAt>>
     ensures { Does same (spec.new_generator (out-FuncDef f.now).line (out-FuncDef f.now).name (map ex_of (out-FuncDef f.now).marks) (map parameter_of (out-FuncDef f.now).params) (block (map st_of (out-FuncDef f.now).body)) (world state.old)) result (world state.new) }
 {
     let n = state.generators.len();

@@ -13,8 +13,8 @@ use crate::machine::step;
 use crate::waiting::{Control, Machine};
 use mh_plans::{Elaborated, plans};
 use mh_pytree::{Module, PyStmt};
-use mh_text::Refusal;
-use mh_world::{Fault, State};
+use mh_text::{CodeAt, Fault, Refusal};
+use mh_world::State;
 use sqlite_items::Items;
 use std::alloc::Global;
 
@@ -25,7 +25,12 @@ const MOST_STATEMENTS: u32 = 1000000;
 const MOST_CALLS: u32 = 64;
 
 /// What the statements of a source make, or the first rule that is broken.
-fn execute<'a>(alloc: Global, body: &'a [PyStmt], limit: u32, most: u32) -> Result<State<'a>, Fault>
+fn execute<'a>(
+    alloc: Global,
+    body: &'a [PyStmt],
+    limit: u32,
+    most: u32,
+) -> Result<State<'a>, Fault<CodeAt>>
     ensures { Executes (spec.executed limit most (block (map st_of body.now))) result }
 {
     let mut m = Machine {
@@ -48,7 +53,12 @@ fn execute<'a>(alloc: Global, body: &'a [PyStmt], limit: u32, most: u32) -> Resu
 }
 
 /// The designs and requests of a source, or the first rule that is broken.
-fn planned(alloc: Global, body: &[PyStmt], limit: u32, most: u32) -> Result<Elaborated, Fault>
+fn planned(
+    alloc: Global,
+    body: &[PyStmt],
+    limit: u32,
+    most: u32,
+) -> Result<Elaborated, Fault<CodeAt>>
     ensures { Plans (answer.elaborated_within limit most (block (map st_of body.now))) result }
 {
     let state = execute(alloc, body, limit, most)?;
@@ -67,7 +77,7 @@ pub fn elaborate_within(
 {
     match planned(alloc, m.stmts.as_slice(), limit, most) {
         Ok(x) => Ok(x),
-        Err(Fault::Broken(code, line)) => Err(Refusal::At {
+        Err(Fault::Broken((code, line))) => Err(Refusal::At {
             code,
             line,
             names: Items::new(alloc),

@@ -8,8 +8,8 @@ ghost use Rattle.mh_elab.specs.Views.{bindings_of};
 ghost use Rattle.mh_world.specs.View.{world, Does, same};
 
 use mh_consts::{Builtin, Const};
-use mh_text::{Code, Text};
-use mh_world::{Fault, State, refuse};
+use mh_text::{Code, CodeAt, Fault, Text};
+use mh_world::{State, refuse};
 use std::alloc::Global;
 
 /// The names of MyHDL, in order.
@@ -58,7 +58,7 @@ fn bind_all<'a>(
     state: &mut State<'a>,
     line: u32,
     mut table: &[(&[u8], Builtin)],
-) -> Result<(), Fault>
+) -> Result<(), Fault<CodeAt>>
     ensures { Does same (spec.bind_pairs line (bindings_of table.entry.now) (world state.old)) result (world state.new) }
 {
     while let [row, rest @ ..] = table {
@@ -70,7 +70,11 @@ fn bind_all<'a>(
 }
 
 /// `from myhdl import *`
-pub(crate) fn import_all<'a>(alloc: Global, state: &mut State<'a>, line: u32) -> Result<(), Fault>
+pub(crate) fn import_all<'a>(
+    alloc: Global,
+    state: &mut State<'a>,
+    line: u32,
+) -> Result<(), Fault<CodeAt>>
     ensures { Does same (spec.bind_pairs line spec.importable (world state.old)) result (world state.new) }
 {
     bind_all(alloc, state, line, &IMPORTABLE)
@@ -82,7 +86,7 @@ pub(crate) fn import_names<'a>(
     state: &mut State<'a>,
     line: u32,
     names: &[Text],
-) -> Result<(), Fault>
+) -> Result<(), Fault<CodeAt>>
     ensures { Does same (spec.import_names line names.now (world state.old)) result (world state.new) }
 {
     for t in names {

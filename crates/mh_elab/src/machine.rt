@@ -17,8 +17,8 @@ use crate::targets::{held, put, update};
 use crate::waiting::{Around, Control, Job, Machine, Waiting, pop, push};
 use mh_consts::{Const, attribute_in, truth};
 use mh_pytree::{Argument, Branch, FuncDef, Operator, PyExpr, PyStmt};
-use mh_text::{Code, Text};
-use mh_world::{Fault, Flow, Mark, at_line, refuse};
+use mh_text::{Code, CodeAt, Fault, Text};
+use mh_world::{Flow, Mark, at_line, refuse};
 use sqlite_items::Items;
 use std::alloc::Global;
 
@@ -31,7 +31,7 @@ fn operated<'a>(
     m: &mut Machine<'a>,
     e: &'a PyExpr,
     done: Items<Const>,
-) -> Result<Control<'a>, Fault>
+) -> Result<Control<'a>, Fault<CodeAt>>
     requires { spec.is_call (ex_of e.now) ≡ false }
     ensures { Leads (spec.operates_in m.old.line m.old.calls (ex_of e.now) done (kept m.old) (world m.old.state)) result m.new }
 {
@@ -48,7 +48,7 @@ fn operates_call<'a>(
     f: &'a PyExpr,
     arguments: &'a [Argument],
     done: Items<Const>,
-) -> Result<Control<'a>, Fault>
+) -> Result<Control<'a>, Fault<CodeAt>>
     requires { ex_of e.now ≡ x.called (ex_of f.now) (keys_of (map given_of arguments.now)) (x.parts_of (map given_of arguments.now)) }
     ensures { Leads (spec.operates_in m.old.line m.old.calls (ex_of e.now) done (kept m.old) (world m.old.state)) result m.new }
 {
@@ -65,7 +65,7 @@ fn operates<'a>(
     m: &mut Machine<'a>,
     e: &'a PyExpr,
     done: Items<Const>,
-) -> Result<Control<'a>, Fault>
+) -> Result<Control<'a>, Fault<CodeAt>>
     ensures { Leads (spec.operates_in m.old.line m.old.calls (ex_of e.now) done (kept m.old) (world m.old.state)) result m.new }
 {
     match e {
@@ -108,7 +108,7 @@ fn puts<'a>(
     target: &'a PyExpr,
     v: Const,
     done: Items<Const>,
-) -> Result<Control<'a>, Fault>
+) -> Result<Control<'a>, Fault<CodeAt>>
     ensures { Leads (spec.finish m.old.line m.old.calls (spec.Puts (target_of target.now) v) done (kept m.old) (world m.old.state)) result m.new }
 {
     put(alloc, &mut m.state, m.line, target, v, done.as_slice())?;
@@ -123,7 +123,7 @@ fn reads<'a>(
     target: &'a PyExpr,
     right: &'a PyExpr,
     done: Items<Const>,
-) -> Result<Control<'a>, Fault>
+) -> Result<Control<'a>, Fault<CodeAt>>
     ensures { Leads (spec.finish m.old.line m.old.calls (spec.Reads op (target_of target.now) (ex_of right.now)) done (kept m.old) (world m.old.state)) result m.new }
 {
     let v = held(alloc, &mut m.state, m.line, target, done.as_slice())?;
@@ -139,7 +139,7 @@ fn defines<'a>(
     mark: Mark,
     f: &'a FuncDef,
     done: Items<Const>,
-) -> Result<Control<'a>, Fault>
+) -> Result<Control<'a>, Fault<CodeAt>>
     ensures { Leads (spec.finish m.old.line m.old.calls (spec.Defines mark (fn_of f.now)) done (kept m.old) (world m.old.state)) result m.new }
 {
     match mark {
@@ -164,7 +164,7 @@ fn finish<'a>(
     m: &mut Machine<'a>,
     job: Job<'a>,
     done: Items<Const>,
-) -> Result<Control<'a>, Fault>
+) -> Result<Control<'a>, Fault<CodeAt>>
     ensures { Leads (spec.finish m.old.line m.old.calls (job_of job.entry) done (kept m.old) (world m.old.state)) result m.new }
 {
     match job {
@@ -182,7 +182,7 @@ pub(crate) fn next_part<'a>(
     job: Job<'a>,
     kids: Kids<'a>,
     done: Items<Const>,
-) -> Result<Control<'a>, Fault>
+) -> Result<Control<'a>, Fault<CodeAt>>
     ensures { Leads (spec.next_part m.old.line m.old.calls (job_of job.entry) (exs_of kids.entry) done (spec.part (exs_of kids.entry) (length done)) (kept m.old) (world m.old.state)) result m.new }
 {
     match part_at(&kids, done.len()) {
@@ -200,7 +200,7 @@ pub(crate) fn parts<'a>(
     m: &mut Machine<'a>,
     job: Job<'a>,
     kids: Kids<'a>,
-) -> Result<Control<'a>, Fault>
+) -> Result<Control<'a>, Fault<CodeAt>>
     ensures { Leads (spec.parts m.old.line m.old.calls (job_of job.entry) (exs_of kids.entry) (kept m.old) (world m.old.state)) result m.new }
 {
     next_part(alloc, m, job, kids, Items::new(alloc))
@@ -217,7 +217,7 @@ fn gather<'a>(
     over: Const,
     at: u64,
     done: Items<Const>,
-) -> Result<Control<'a>, Fault>
+) -> Result<Control<'a>, Fault<CodeAt>>
     ensures { Leads (spec.Eval m.old.line m.old.calls (ex_of item.now) (spec.Collects left (ex_of item.now) name.now over (at + 1) done ∷ kept m.old) (world m.old.state)) result m.new }
 {
     let Some(next) = at.checked_add(1) else {
@@ -241,7 +241,7 @@ fn collect_turn<'a>(
     over: Const,
     at: u64,
     done: Items<Const>,
-) -> Result<Control<'a>, Fault>
+) -> Result<Control<'a>, Fault<CodeAt>>
     ensures { Leads (spec.collect_turn left m.old.line m.old.calls (ex_of item.now) name.now over at done (kept m.old) (world m.old.state)) result m.new }
 {
     if left == 0 {
@@ -267,7 +267,7 @@ fn eval_left<'a>(
     m: &mut Machine<'a>,
     left: &'a PyExpr,
     right: Waiting<'a>,
-) -> Result<Control<'a>, Fault>
+) -> Result<Control<'a>, Fault<CodeAt>>
     ensures { Leads (spec.Eval m.old.line m.old.calls (ex_of left.now) (frame_of right.entry ∷ kept m.old) (world m.old.state)) result m.new }
 {
     push(&mut m.frames, right)?;
@@ -276,7 +276,11 @@ fn eval_left<'a>(
 
 /// An operation, whose parts are evaluated first.
 #[tactic(auto, using(crate::proofs::OperationLaws::eval_operation))]
-fn eval_parts<'a>(alloc: Global, m: &mut Machine<'a>, e: &'a PyExpr) -> Result<Control<'a>, Fault>
+fn eval_parts<'a>(
+    alloc: Global,
+    m: &mut Machine<'a>,
+    e: &'a PyExpr,
+) -> Result<Control<'a>, Fault<CodeAt>>
     requires { spec.is_operation (ex_of e.now) ≡ true }
     ensures { Leads (spec.eval m.old.line m.old.calls (ex_of e.now) (kept m.old) (world m.old.state)) result m.new }
 {
@@ -291,7 +295,7 @@ fn eval_binary<'a>(
     operator: Operator,
     left: &'a PyExpr,
     right: &'a PyExpr,
-) -> Result<Control<'a>, Fault>
+) -> Result<Control<'a>, Fault<CodeAt>>
     requires { ex_of e.now ≡ x.binary operator (ex_of left.now) (ex_of right.now) }
     ensures { Leads (spec.eval m.old.line m.old.calls (ex_of e.now) (kept m.old) (world m.old.state)) result m.new }
 {
@@ -318,7 +322,7 @@ fn eval_binary<'a>(
 }
 
 /// The value of a name.
-fn eval_name<'a>(alloc: Global, m: &mut Machine<'a>, t: &Text) -> Result<Control<'a>, Fault>
+fn eval_name<'a>(alloc: Global, m: &mut Machine<'a>, t: &Text) -> Result<Control<'a>, Fault<CodeAt>>
     ensures { Leads (spec.to (seen.name m.old.line t.now (world m.old.state)) (λ v w. spec.Give m.old.line m.old.calls v (kept m.old) w)) result m.new }
 {
     let v = m.state.name(alloc, m.line, t)?;
@@ -327,7 +331,7 @@ fn eval_name<'a>(alloc: Global, m: &mut Machine<'a>, t: &Text) -> Result<Control
 
 /// An expression.
 #[tactic(auto, using(crate::proofs::OperationLaws::operation_forms))]
-fn eval<'a>(alloc: Global, m: &mut Machine<'a>, e: &'a PyExpr) -> Result<Control<'a>, Fault>
+fn eval<'a>(alloc: Global, m: &mut Machine<'a>, e: &'a PyExpr) -> Result<Control<'a>, Fault<CodeAt>>
     ensures { Leads (spec.eval m.old.line m.old.calls (ex_of e.now) (kept m.old) (world m.old.state)) result m.new }
 {
     match e {
@@ -361,7 +365,11 @@ fn eval<'a>(alloc: Global, m: &mut Machine<'a>, e: &'a PyExpr) -> Result<Control
 // ---- what waits for a value
 
 /// The left side of an `and` has a value.
-fn and_given<'a>(m: &mut Machine<'a>, v: &Const, right: &'a PyExpr) -> Result<Control<'a>, Fault>
+fn and_given<'a>(
+    m: &mut Machine<'a>,
+    v: &Const,
+    right: &'a PyExpr,
+) -> Result<Control<'a>, Fault<CodeAt>>
     ensures { Leads (spec.give m.old.line m.old.calls v.now (spec.AndRight (ex_of right.now) ∷ kept m.old) (world m.old.state)) result m.new }
 {
     if at_line(truth(v), m.line)? {
@@ -373,7 +381,11 @@ fn and_given<'a>(m: &mut Machine<'a>, v: &Const, right: &'a PyExpr) -> Result<Co
 }
 
 /// The left side of an `or` has a value.
-fn or_given<'a>(m: &mut Machine<'a>, v: &Const, right: &'a PyExpr) -> Result<Control<'a>, Fault>
+fn or_given<'a>(
+    m: &mut Machine<'a>,
+    v: &Const,
+    right: &'a PyExpr,
+) -> Result<Control<'a>, Fault<CodeAt>>
     ensures { Leads (spec.give m.old.line m.old.calls v.now (spec.OrRight (ex_of right.now) ∷ kept m.old) (world m.old.state)) result m.new }
 {
     if at_line(truth(v), m.line)? {
@@ -385,7 +397,7 @@ fn or_given<'a>(m: &mut Machine<'a>, v: &Const, right: &'a PyExpr) -> Result<Con
 }
 
 /// A value as a truth value.
-fn as_truth<'a>(m: &Machine<'a>, v: &Const) -> Result<Control<'a>, Fault>
+fn as_truth<'a>(m: &Machine<'a>, v: &Const) -> Result<Control<'a>, Fault<CodeAt>>
     ensures { Leads (spec.give m.now.line m.now.calls v.now (spec.AsTruth ∷ kept m.now) (world m.now.state)) result m.now }
 {
     let t = at_line(truth(v), m.line)?;
@@ -400,7 +412,7 @@ fn chooses<'a>(
     body: &'a [PyStmt],
     rest: &'a [Branch],
     other: &'a [PyStmt],
-) -> Result<Control<'a>, Fault>
+) -> Result<Control<'a>, Fault<CodeAt>>
     ensures { Leads (spec.give m.old.line m.old.calls v.now (spec.Chooses in_loop (statements body.now) (choices (map choice_of rest.now)) (statements other.now) ∷ kept m.old) (world m.old.state)) result m.new }
 {
     let line = m.line;
@@ -419,7 +431,7 @@ fn tests<'a>(
     line: u32,
     test: &'a PyExpr,
     body: &'a [PyStmt],
-) -> Result<Control<'a>, Fault>
+) -> Result<Control<'a>, Fault<CodeAt>>
     ensures { Leads (spec.give m.old.line m.old.calls v.now (spec.Tests left line (ex_of test.now) (statements body.now) ∷ kept m.old) (world m.old.state)) result m.new }
 {
     if at_line(truth(v), line)? {
@@ -442,7 +454,7 @@ fn updates<'a>(
     done: Items<Const>,
     left: &Const,
     right: &Const,
-) -> Result<Control<'a>, Fault>
+) -> Result<Control<'a>, Fault<CodeAt>>
     ensures { Leads (spec.give m.old.line m.old.calls right.now (spec.Updates op (target_of target.now) done left.now ∷ kept m.old) (world m.old.state)) result m.new }
 {
     update(
@@ -466,7 +478,7 @@ fn part_given<'a>(
     kids: Kids<'a>,
     mut done: Items<Const>,
     v: Const,
-) -> Result<Control<'a>, Fault>
+) -> Result<Control<'a>, Fault<CodeAt>>
     ensures { Leads (spec.give m.old.line m.old.calls v (spec.Parts (job_of job.entry) (exs_of kids.entry) done ∷ kept m.old) (world m.old.state)) result m.new }
 {
     done.push(v)?;
@@ -480,7 +492,7 @@ fn collects_over<'a>(
     item: &'a PyExpr,
     name: &'a Text,
     over: Const,
-) -> Result<Control<'a>, Fault>
+) -> Result<Control<'a>, Fault<CodeAt>>
     ensures { Leads (spec.give m.old.line m.old.calls over (spec.Collecting (ex_of item.now) name.now ∷ kept m.old) (world m.old.state)) result m.new }
 {
     let turns = m.state.turns();
@@ -498,7 +510,7 @@ fn collected<'a>(
     at: u64,
     mut done: Items<Const>,
     v: Const,
-) -> Result<Control<'a>, Fault>
+) -> Result<Control<'a>, Fault<CodeAt>>
     ensures { Leads (spec.give m.old.line m.old.calls v (spec.Collects left (ex_of item.now) name.now over at done ∷ kept m.old) (world m.old.state)) result m.new }
 {
     done.push(v)?;
@@ -507,7 +519,7 @@ fn collected<'a>(
 }
 
 /// A value is returned.
-fn returned<'a>(m: &Machine<'a>, v: Const) -> Result<Control<'a>, Fault>
+fn returned<'a>(m: &Machine<'a>, v: Const) -> Result<Control<'a>, Fault<CodeAt>>
     ensures { Leads (spec.give m.now.line m.now.calls v (spec.Returning ∷ kept m.now) (world m.now.state)) result m.now }
 {
     let flow = m.state.returned(m.line, v)?;
@@ -520,7 +532,7 @@ fn given<'a>(
     m: &mut Machine<'a>,
     f: Waiting<'a>,
     v: Const,
-) -> Result<Control<'a>, Fault>
+) -> Result<Control<'a>, Fault<CodeAt>>
     requires { spec.give m.old.line m.old.calls v (frame_of f ∷ kept m.old) (world m.old.state) ≢ spec.Stuck }
     ensures { Leads (spec.give m.old.line m.old.calls v (frame_of f.entry ∷ kept m.old) (world m.old.state)) result m.new }
 {
@@ -551,7 +563,7 @@ fn given_around<'a>(
     around: Around<'a>,
     body: &'a [PyStmt],
     v: Const,
-) -> Result<Control<'a>, Fault>
+) -> Result<Control<'a>, Fault<CodeAt>>
     requires { spec.give m.old.line m.old.calls v (around_of around body.now ∷ kept m.old) (world m.old.state) ≢ spec.Stuck }
     ensures { Leads (spec.give m.old.line m.old.calls v (around_of around.entry body.now ∷ kept m.old) (world m.old.state)) result m.new }
 {
@@ -580,7 +592,7 @@ fn leaves<'a>(
     line: u32,
     calls: u32,
     flow: Flow,
-) -> Result<Control<'a>, Fault>
+) -> Result<Control<'a>, Fault<CodeAt>>
     ensures { Leads (spec.ended m.old.calls flow (spec.Back def caller line calls ∷ kept m.old) (world m.old.state)) result m.new }
 {
     let v = m.state.leave(alloc, def, caller, flow)?;
@@ -595,7 +607,7 @@ fn ended<'a>(
     m: &mut Machine<'a>,
     f: Waiting<'a>,
     flow: Flow,
-) -> Result<Control<'a>, Fault>
+) -> Result<Control<'a>, Fault<CodeAt>>
     requires { spec.ended m.old.calls flow (frame_of f ∷ kept m.old) (world m.old.state) ≢ spec.Stuck }
     ensures { Leads (spec.ended m.old.calls flow (frame_of f.entry ∷ kept m.old) (world m.old.state)) result m.new }
 {
@@ -624,7 +636,7 @@ fn ended_around<'a>(
     around: Around<'a>,
     body: &'a [PyStmt],
     flow: Flow,
-) -> Result<Control<'a>, Fault>
+) -> Result<Control<'a>, Fault<CodeAt>>
     requires { spec.ended m.old.calls flow (around_of around body.now ∷ kept m.old) (world m.old.state) ≢ spec.Stuck }
     ensures { Leads (spec.ended m.old.calls flow (around_of around.entry body.now ∷ kept m.old) (world m.old.state)) result m.new }
 {
@@ -654,7 +666,7 @@ fn exec<'a>(
     m: &mut Machine<'a>,
     in_loop: bool,
     body: &'a [PyStmt],
-) -> Result<Control<'a>, Fault>
+) -> Result<Control<'a>, Fault<CodeAt>>
     ensures { Leads (spec.exec m.old.calls in_loop (block (map st_of body.now)) (kept m.old) (world m.old.state)) result m.new }
 {
     match body {
@@ -675,7 +687,7 @@ pub(crate) fn step<'a>(
     alloc: Global,
     m: &mut Machine<'a>,
     c: Control<'a>,
-) -> Result<Option<Control<'a>>, Fault>
+) -> Result<Option<Control<'a>>, Fault<CodeAt>>
     requires { spec.step (config c m.old) ≢ spec.Stuck }
     ensures { Steps (spec.step (config c.entry m.old)) result m.new }
 {

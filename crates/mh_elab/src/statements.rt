@@ -15,8 +15,8 @@ use crate::machine::parts;
 use crate::waiting::{Around, Control, Job, Machine, Waiting, push};
 use mh_consts::Const;
 use mh_pytree::{Branch, FuncDef, Operator, PyExpr, PyStmt};
-use mh_text::{Code, Text};
-use mh_world::{Fault, Flow, Mark, parameters_fit, refuse};
+use mh_text::{Code, CodeAt, Fault, Text};
+use mh_world::{Flow, Mark, parameters_fit, refuse};
 use sqlite_items::Items;
 use std::alloc::Global;
 
@@ -28,7 +28,7 @@ pub(crate) fn test_turn<'a>(
     line: u32,
     test: &'a PyExpr,
     body: &'a [PyStmt],
-) -> Result<Control<'a>, Fault>
+) -> Result<Control<'a>, Fault<CodeAt>>
     ensures { Leads (spec.test_turn left line m.old.calls (ex_of test.now) (block (map st_of body.now)) (kept m.old) (world m.old.state)) result m.new }
 {
     if left == 0 {
@@ -53,7 +53,7 @@ fn each_turn<'a>(
     over: Const,
     at: u64,
     body: &'a [PyStmt],
-) -> Result<Control<'a>, Fault>
+) -> Result<Control<'a>, Fault<CodeAt>>
     ensures { Leads (spec.each_turn (Some item) left line m.old.calls name.now over at (block (map st_of body.now)) (kept m.old) (world m.old.state)) result m.new }
 {
     let Some(next) = at.checked_add(1) else {
@@ -76,7 +76,7 @@ pub(crate) fn over_turn<'a>(
     over: Const,
     at: u64,
     body: &'a [PyStmt],
-) -> Result<Control<'a>, Fault>
+) -> Result<Control<'a>, Fault<CodeAt>>
     ensures { Leads (spec.over_turn left line m.old.calls name.now over at (block (map st_of body.now)) (kept m.old) (world m.old.state)) result m.new }
 {
     if left == 0 {
@@ -97,7 +97,7 @@ fn choice_turn<'a>(
     branch: &'a Branch,
     rest: &'a [Branch],
     other: &'a [PyStmt],
-) -> Result<Control<'a>, Fault>
+) -> Result<Control<'a>, Fault<CodeAt>>
     ensures { Leads (spec.choice_turn line m.old.calls in_loop (choice_of branch.now) (choices (map choice_of rest.now)) (block (map st_of other.now)) (kept m.old) (world m.old.state)) result m.new }
 {
     let around = Around::Chooses(in_loop, rest, other);
@@ -116,7 +116,7 @@ pub(crate) fn choose_turn<'a>(
     in_loop: bool,
     branches: &'a [Branch],
     other: &'a [PyStmt],
-) -> Result<Control<'a>, Fault>
+) -> Result<Control<'a>, Fault<CodeAt>>
     ensures { Leads (spec.choose_turn line m.old.calls in_loop (choices (map choice_of branches.now)) (block (map st_of other.now)) (kept m.old) (world m.old.state)) result m.new }
 {
     match branches {
@@ -142,7 +142,7 @@ fn define_as<'a>(
     m: &mut Machine<'a>,
     mark: Mark,
     f: &'a FuncDef,
-) -> Result<Control<'a>, Fault>
+) -> Result<Control<'a>, Fault<CodeAt>>
     ensures { Leads (spec.to (elaboration.def_fits mark m.old.line (map parameter_of (out-FuncDef f.now).params) (world m.old.state)) (λ u w. spec.parts m.old.line m.old.calls (spec.Defines mark (fn_of f.now)) (elaboration.def_parts mark (map parameter_of (out-FuncDef f.now).params)) (kept m.old) w)) result m.new }
 {
     match mark {
@@ -157,7 +157,11 @@ fn define_as<'a>(
 
 /// A definition.
 #[tactic(auto, using(mh_world::proofs::Shapes::forms))]
-fn define_turn<'a>(alloc: Global, m: &mut Machine<'a>, f: &'a FuncDef) -> Result<Control<'a>, Fault>
+fn define_turn<'a>(
+    alloc: Global,
+    m: &mut Machine<'a>,
+    f: &'a FuncDef,
+) -> Result<Control<'a>, Fault<CodeAt>>
     ensures { Leads (spec.define_turn m.old.calls (fn_of f.now) (kept m.old) (world m.old.state)) result m.new }
 {
     let mark = m.state.marked(f.line, f.marks.as_slice())?;
@@ -171,7 +175,7 @@ fn awaits<'a>(
     line: u32,
     e: &'a PyExpr,
     f: Waiting<'a>,
-) -> Result<Control<'a>, Fault>
+) -> Result<Control<'a>, Fault<CodeAt>>
     ensures { Leads (spec.Eval line m.old.calls (ex_of e.now) (frame_of f.entry ∷ kept m.old) (world m.old.state)) result m.new }
 {
     m.line = line;
@@ -180,7 +184,11 @@ fn awaits<'a>(
 }
 
 /// A `return`.
-fn returns<'a>(m: &mut Machine<'a>, line: u32, e: &'a Option<PyExpr>) -> Result<Control<'a>, Fault>
+fn returns<'a>(
+    m: &mut Machine<'a>,
+    line: u32,
+    e: &'a Option<PyExpr>,
+) -> Result<Control<'a>, Fault<CodeAt>>
     ensures { Leads (spec.Eval line m.old.calls (returned_of e.now) (spec.Returning ∷ kept m.old) (world m.old.state)) result m.new }
 {
     match e {
@@ -201,7 +209,7 @@ fn augments<'a>(
     op: Operator,
     target: &'a PyExpr,
     e: &'a PyExpr,
-) -> Result<Control<'a>, Fault>
+) -> Result<Control<'a>, Fault<CodeAt>>
     ensures { Leads (spec.parts line m.old.calls (spec.Reads op (target_of target.now) (ex_of e.now)) (elaboration.read_parts (target_of target.now) (ex_of target.now)) (kept m.old) (world m.old.state)) result m.new }
 {
     m.line = line;
@@ -214,7 +222,7 @@ fn leave_loop<'a>(
     in_loop: bool,
     line: u32,
     flow: Flow,
-) -> Result<Control<'a>, Fault>
+) -> Result<Control<'a>, Fault<CodeAt>>
     ensures { Leads (spec.to (elaboration.leave_loop in_loop line flow (world m.now.state)) (λ f w. spec.Ends m.now.calls f (kept m.now) w)) result m.now }
 {
     if in_loop {
@@ -231,7 +239,7 @@ pub(crate) fn begin<'a>(
     m: &mut Machine<'a>,
     in_loop: bool,
     s: &'a PyStmt,
-) -> Result<Control<'a>, Fault>
+) -> Result<Control<'a>, Fault<CodeAt>>
     ensures { Leads (spec.begin m.old.calls in_loop (st_of s.now) (kept m.old) (world m.old.state)) result m.new }
 {
     match s {

@@ -12,8 +12,8 @@ ghost use Rattle.mh_world.specs.World.{World, given, pure};
 
 use mh_consts::{Const, operated};
 use mh_pytree::{Operator, PyExpr};
-use mh_text::{Code, Text};
-use mh_world::{Fault, State, at_line, refuse};
+use mh_text::{Code, CodeAt, Fault, Text};
+use mh_world::{State, at_line, refuse};
 use std::alloc::Global;
 
 /// The name that an expression is, without brackets round it, lent.
@@ -65,7 +65,7 @@ fn bind_names<'a>(
     line: u32,
     xs: &[PyExpr],
     vs: &[Const],
-) -> Result<(), Fault>
+) -> Result<(), Fault<CodeAt>>
     requires { is_some (statements.names_of xs.now) ≡ true }
     ensures { Does same (spec.bind_names line (names_given (statements.names_of xs.now)) vs.now (world state.old)) result (world state.new) }
 {
@@ -92,7 +92,7 @@ fn unpack_items<'a>(
     line: u32,
     xs: &[PyExpr],
     vs: &[Const],
-) -> Result<(), Fault>
+) -> Result<(), Fault<CodeAt>>
     requires { is_some (statements.names_of xs.now) ≡ true }
     ensures { Does same (spec.unpack line (names_given (statements.names_of xs.now)) vs.now (world state.old)) result (world state.new) }
 {
@@ -110,7 +110,7 @@ fn unpack<'a>(
     line: u32,
     xs: &[PyExpr],
     v: &Const,
-) -> Result<(), Fault>
+) -> Result<(), Fault<CodeAt>>
     ensures { (parts : List Const) → Does same (spec.put line (statements.to_names (statements.names_of xs.now)) v.now parts (world state.old)) result (world state.new) }
 {
     if !all_are_names(xs) {
@@ -129,7 +129,7 @@ pub(crate) fn put<'a>(
     target: &PyExpr,
     v: Const,
     parts: &[Const],
-) -> Result<(), Fault>
+) -> Result<(), Fault<CodeAt>>
     ensures { Does same (spec.put line (target_of target.now) v parts.now (world state.old)) result (world state.new) }
 {
     match target {
@@ -158,9 +158,14 @@ pub(crate) fn put<'a>(
     }
 }
 
-/// The value of the one part.
-fn first(alloc: Global, line: u32, parts: &[Const]) -> Result<Const, Fault>
-    ensures { (w : World) → Does same (given (slice_get parts.now 0) E10KindClash line pure w) result w }
+/// The value of the one part. It leaves the state as it is.
+fn first<'a>(
+    alloc: Global,
+    state: &State<'a>,
+    line: u32,
+    parts: &[Const],
+) -> Result<Const, Fault<CodeAt>>
+    ensures { Does same (given (slice_get parts.now 0) E10KindClash line pure (world state.now)) result (world state.now) }
 {
     match parts {
         [v, ..] => Ok(v.copy(alloc)?),
@@ -177,29 +182,29 @@ pub(crate) fn held<'a>(
     line: u32,
     target: &PyExpr,
     parts: &[Const],
-) -> Result<Const, Fault>
+) -> Result<Const, Fault<CodeAt>>
     ensures { Does same (spec.held line (target_of target.now) parts.now (world state.old)) result (world state.new) }
 {
     match target {
         PyExpr::Name(t) => state.name(alloc, line, t),
         PyExpr::Index(_, _) => state.computed(alloc, line, target, parts),
+        PyExpr::Tuple(_) => first(alloc, state, line, parts),
         PyExpr::Number(_)
         | PyExpr::Str(_)
         | PyExpr::True
         | PyExpr::False
         | PyExpr::None
-        | PyExpr::Group(_)
-        | PyExpr::Bracketed(_)
-        | PyExpr::Tuple(_)
+        | PyExpr::Group(_) => first(alloc, state, line, parts),
+        PyExpr::Bracketed(_)
         | PyExpr::List(_)
         | PyExpr::Comprehension(_, _, _)
         | PyExpr::Not(_)
-        | PyExpr::Unary(_, _)
-        | PyExpr::Binary(_, _, _)
+        | PyExpr::Unary(_, _) => first(alloc, state, line, parts),
+        PyExpr::Binary(_, _, _)
         | PyExpr::Attribute(_, _)
         | PyExpr::Call(_, _)
         | PyExpr::Slice(_, _, _)
-        | PyExpr::Whole(_) => first(alloc, line, parts),
+        | PyExpr::Whole(_) => first(alloc, state, line, parts),
     }
 }
 
@@ -240,7 +245,7 @@ pub(crate) fn update<'a>(
     parts: &[Const],
     left: &Const,
     right: &Const,
-) -> Result<(), Fault>
+) -> Result<(), Fault<CodeAt>>
     ensures { Does same (spec.update line op (target_of target.now) parts.now left.now right.now (world state.old)) result (world state.new) }
 {
     if !is_target(target) {

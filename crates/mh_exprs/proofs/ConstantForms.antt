@@ -59,23 +59,6 @@ local-called ls f keys args = refl
 
 pub ruleset local_forms = (shapes, or-false, local-binary, local-slice, local-called)
 
--- ---- methods
-
-pub method-binary : (o : Operator) (a b : Ex) → attribute_in (binary o a b) ≡ None
-method-binary op.Or a b = refl
-method-binary op.And a b = refl
-method-binary o a b = refl
-
-pub method-slice_from : (m : Option (List ℕ)) (a b : Ex) → attribute_in (slice_from m a b) ≡ None
-method-slice_from None a b = refl
-method-slice_from (Some t) a b = refl
-
-pub method-called : (m : Option (List ℕ × Exs)) (f : Ex) (keys : Keys) (args : Exs) → attribute_in (called_as m f keys args) ≡ None
-method-called None f keys args = refl
-method-called (Some t) f keys args = refl
-
-pub ruleset method_forms = (shapes, method-binary, method-slice_from, method-called)
-
 -- ---- constants
 
 pub constant-binary : (s : Scope) (ls : Locals) (o : Operator) (a b : Ex) → is_constant s ls (binary o a b) ≡ (is_constant s ls a && is_constant s ls b)

@@ -1,5 +1,5 @@
 -- What the forms of expression come to that go by cases.
-use Rattle.std.proofs.Common.{◌≡◌, ℕ, Bool, true, false, not, ◌&&◌, List, Option, Some, None, Result, refl, sym, ap, ◌∙◌, subst, is_some, if◌then◌else◌}
+use Rattle.std.proofs.Common.{◌≡◌, ℕ, Bool, true, false, List, Option, Some, None, Result, refl, sym, ap, ◌∙◌, subst, if◌then◌else◌}
 use Rattle.mh_pytree.specs.declared.expression.Operator.{Operator}
 use Rattle.mh_pytree.specs.declared.expression.Operator.TheVariants as op
 use Rattle.mh_pytree.specs.declared.expression.PyExpr.{PyExpr}
@@ -16,8 +16,8 @@ use Rattle.mh_design.specs.declared.design.Design.{Design}
 use Rattle.mh_exprs.specs.declared.locals.Locals.{Locals}
 use Rattle.mh_exprs.specs.declared.typed.Typed.{Typed}
 use Rattle.mh_exprs.specs.declared.typed.Work.{Work}
-use Rattle.mh_exprs.specs.Calls.{callee_of, callee_by, is_maker}
-use Rattle.mh_exprs.specs.declared.fault.Fault.{Fault}
+use Rattle.mh_exprs.specs.Calls.{callee_of, is_maker}
+use Rattle.mh_text.specs.declared.fault.Fault.{Fault}
 use Rattle.mh_exprs.specs.Expression.{read, read_form, folding, on_one, on_two, on_three, is_wide, is_made_by}
 use Rattle.mh_exprs.specs.Operations.{attribute, operated, signed, slice, zero_end}
 use Rattle.mh_exprs.specs.Step.{Grows, Step, pure, refuse}
@@ -55,24 +55,7 @@ pub form-slice_from : (s : Scope) (ls : Locals) (w : Work) (m : Option (List ℕ
 form-slice_from s ls w None a b d = refl
 form-slice_from s ls w (Some t) a b d = form-slice_by s ls w (is_maker (callee_of s ls (h.Name t))) a b d
 
-made-named : (s : Scope) (ls : Locals) (n : Option (List ℕ)) → is_made_by s ls n ≡ is_maker (callee_by s ls n)
-made-named s ls None = refl
-made-named s ls (Some t) = refl
-
-pub made-called : (s : Scope) (ls : Locals) (m : Option (List ℕ × Exs)) (f : Ex) (keys : Keys) (args : Exs) →
-    is_made_by s ls (maker (called_as m f keys args)) ≡ (not (is_some m) && is_maker (callee_of s ls f))
-made-called s ls None f keys args = made-named s ls (name_in f)
-made-called s ls (Some a) f keys args = refl
-
 pub ruleset forms = (constant_forms, form-binary, form-slice_from)
-
-pub named-called : (m : Option (List ℕ × Exs)) (f : Ex) (keys : Keys) (args : Exs) → is_some (maker (called_as m f keys args)) ≡ (not (is_some m) && is_some (name_in f))
-named-called None f keys args = refl
-named-called (Some a) f keys args = refl
-
-pub ruleset named_calls = (constant_forms, named-called)
-
-pub ruleset makers = (constant_forms, made-called)
 
 -- ---- what reading a form with an operator comes to
 
@@ -88,5 +71,5 @@ pub form-attribute : (s : Scope) (ls : Locals) (w : Work) (e : PyExpr) (a : PyEx
     on_one (read s ls w true (ex_of a)) (attribute t) d ≡ read_form s ls w (ex_of e) d
 form-attribute s ls w e a t d h = sym (ap (λ x. read_form s ls w x d) (ap ex_of h ∙ ex-attribute a t))
 
-pub grows : {A : Type 0} {r q : Result (A × Design) Code} (x : Result A Fault) (d : Design) → r ≡ q → Grows r x d → Grows q x d
+pub grows : {A : Type 0} {r q : Result (A × Design) Code} (x : Result A (Fault Code)) (d : Design) → r ≡ q → Grows r x d → Grows q x d
 grows x d h g = subst (λ y. Grows y x d) h g

@@ -1,5 +1,5 @@
 -- What is called, and how, and what is indexed, in a generator.
-use Rattle.std.specs.Prelude.{ℕ, Bool, true, false, ◌&&◌, List, [], ◌∷◌, Option, Some, None, if◌then◌else◌, bytes_eq, codes, length, nat_eq}
+use Rattle.std.specs.Prelude.{ℕ, Bool, true, false, ◌&&◌, List, [], Option, Some, None, if◌then◌else◌, bytes_eq, codes, length, nat_eq}
 use Rattle.mh_text.specs.declared.code.Code.TheVariants.{E1UnknownName, E2NotElaborable, E10KindClash}
 use Rattle.mh_consts.specs.declared.kinds.Builtin.{Builtin}
 use Rattle.mh_consts.specs.declared.kinds.Builtin.TheVariants as builtin

@@ -19,7 +19,7 @@ use Rattle.mh_design.specs.declared.design.Kind.TheVariants as kind
 use Rattle.mh_design.specs.declared.kinds.ValueKind.TheVariants as value
 use Rattle.mh_design.specs.declared.expression.GExpr.{GExpr}
 use Rattle.mh_design.specs.declared.expression.GExpr.TheVariants as e
-use Rattle.mh_design.specs.Constants.{kind_width, constant_of, index_keeps}
+use Rattle.mh_design.specs.Constants.{constant_of, index_keeps}
 use Rattle.mh_design.specs.Kinds.{signal_kind, item_count, is_number, read_as}
 use Rattle.mh_design.specs.Tree.{expression_of}
 use Rattle.mh_design.specs.WellFormed.{cells_kind}

@@ -4,8 +4,8 @@ use Rattle.std.specs.Prelude.{◌≡◌, Result, Ok, Err}
 use Rattle.mh_text.specs.declared.code.Code.{Code}
 use Rattle.mh_design.specs.declared.design.Design.{Design}
 use Rattle.mh_consts.specs.Outcome.{after}
-use Rattle.mh_exprs.specs.declared.fault.Fault.{Fault}
-use Rattle.mh_exprs.specs.declared.fault.Fault.TheVariants as fault
+use Rattle.mh_text.specs.declared.fault.Fault.{Fault}
+use Rattle.mh_text.specs.Faults.{Tells}
 
 abbrev pub Step : Type 0 → Type 0
 Step A = Design → Result (A × Design) Code
@@ -37,17 +37,10 @@ seeing f d = after (f d) (λ x. Ok (x, d))
 
 -- ---- what the program gives: this, unless memory ran out
 
-abbrev pub Gives : {A : Type 0} → Result A Code → Result A Fault → Type 0
-Gives r (Ok x) = r ≡ Ok x
-Gives r (Err (fault.Broken code)) = r ≡ Err code
-Gives r (Err fault.Memory) = Unit {0}
-
 -- of what changes in place: this after Ok, and nothing is said after a refusal
 abbrev pub Changes : {A : Type 0} → Result A Code → Result (Unit {0}) Code → A → Type 0
 Changes r (Ok u) x = r ≡ Ok x
 Changes r (Err code) x = r ≡ Err code
 
-abbrev pub Grows : {A : Type 0} → Result (A × Design) Code → Result A Fault → Design → Type 0
-Grows r (Ok x) d = r ≡ Ok (x, d)
-Grows r (Err (fault.Broken code)) d = r ≡ Err code
-Grows r (Err fault.Memory) d = Unit {0}
+abbrev pub Grows : {A : Type 0} → Result (A × Design) Code → Result A (Fault Code) → Design → Type 0
+Grows r x d = Tells (λ v. (v, d)) r x

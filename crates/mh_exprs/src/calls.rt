@@ -1,19 +1,17 @@
 // What is called, and how, and what is indexed, in a generator.
-ghost use Rattle.std.specs.Prelude.{◌≡◌, map, option_copied, Some, is_some, is_none};
+ghost use Rattle.std.specs.Prelude.{◌≡◌, map, option_copied, Some, is_some};
 ghost use Rattle.mh_consts.specs.Expression as plain;
 ghost use Rattle.mh_consts.specs.declared.kinds.Const.{out-Const};
 ghost use Rattle.mh_consts.specs.Expression.{ex_of, given_of, keys_of};
-ghost use Rattle.mh_consts.specs.Builtins as builtins;
 ghost use Rattle.mh_exprs.specs.Calls as spec;
 
-use crate::constant::{is_attribute, is_local, name_in, outside};
+use crate::constant::{is_local, outside};
 use crate::locals::Locals;
 use crate::names::{Callee, Form, Found, Plan};
 use crate::operations::is_word;
-use mh_consts::{Builtin, Const, Scope};
+use mh_consts::{Builtin, Const, Scope, all_positional, key_at, maker, name_in};
 use mh_pytree::{Argument, PyExpr};
 use mh_text::{Code, Text};
-use sqlite_items::at;
 
 /// What a value is as what is called.
 #[tactic(auto, using(mh_consts::proofs::Values::values))]
@@ -73,25 +71,6 @@ fn pair_form(a: &Text, b: &Text) -> Form
     }
 }
 
-/// The name of an argument, if it has one.
-#[tactic(auto, using(mh_consts::proofs::Shapes::shapes))]
-fn key(argument: &Argument) -> Option<&Text>
-    ensures { option_copied result ≡ plain.key_of (given_of argument.now) }
-{
-    argument.name.as_ref()
-}
-
-/// The name of the argument at a place, if it has one.
-#[tactic(auto, using(mh_consts::proofs::Keys::keys))]
-fn key_at(arguments: &[Argument], i: usize) -> Option<&Text>
-    ensures { option_copied result ≡ builtins.key_at (keys_of (map given_of arguments.now)) i }
-{
-    match at(arguments, i) {
-        None => None,
-        Some(argument) => key(argument),
-    }
-}
-
 /// The form of one argument.
 fn one_form(first: Option<&Text>) -> Form
     ensures { result ≡ spec.one_form (option_copied first.entry) }
@@ -127,25 +106,6 @@ pub fn form_of(arguments: &[Argument]) -> Form
         key_at(arguments, 1),
         key_at(arguments, 2),
     )
-}
-
-/// Whether an argument is given by position.
-fn is_positional(argument: &Argument) -> bool
-    ensures { result ≡ is_none (plain.key_of (given_of argument.now)) }
-{
-    key(argument).is_none()
-}
-
-/// Whether all arguments are given by position.
-pub fn all_positional(arguments: &[Argument]) -> bool
-    ensures { result ≡ builtins.all_positional (keys_of (map given_of arguments.now)) }
-{
-    for argument in arguments {
-        if !is_positional(argument) {
-            return false;
-        }
-    }
-    true
 }
 
 /// Whether these are the arguments of a `concat`: one or more, by position.
@@ -274,29 +234,8 @@ pub(crate) fn collection<'a>(s: &'a Scope, locals: &Locals, a: &PyExpr) -> Found
 }
 
 /// Whether an expression is a call by a name, brackets left out.
-#[tactic(auto, using(crate::proofs::Forms::named_calls))]
 pub fn is_named_call(e: &PyExpr) -> bool
     ensures { result ≡ is_some (plain.maker (ex_of e.now)) }
 {
-    match e {
-        PyExpr::Group(a) => is_named_call(a.get()),
-        PyExpr::Call(f, _) => !is_attribute(f.get()) && name_in(f.get()).is_some(),
-        PyExpr::Name(_)
-        | PyExpr::Number(_)
-        | PyExpr::Str(_)
-        | PyExpr::True
-        | PyExpr::False
-        | PyExpr::None
-        | PyExpr::Bracketed(_)
-        | PyExpr::Tuple(_)
-        | PyExpr::List(_)
-        | PyExpr::Comprehension(_, _, _)
-        | PyExpr::Not(_)
-        | PyExpr::Unary(_, _)
-        | PyExpr::Binary(_, _, _)
-        | PyExpr::Attribute(_, _)
-        | PyExpr::Index(_, _)
-        | PyExpr::Slice(_, _, _)
-        | PyExpr::Whole(_) => false,
-    }
+    maker(e).is_some()
 }

@@ -1,74 +1,17 @@
 // Which expressions of a generator are one constant.
-ghost use Rattle.std.specs.Prelude.{◌≡◌, IfOk, map, option_copied, is_some};
+ghost use Rattle.std.specs.Prelude.{◌≡◌, IfOk, map, option_copied};
+ghost use Rattle.mh_text.specs.Faults.{Gives};
 ghost use Rattle.mh_consts.specs.declared.kinds.Const.{out-Const};
 ghost use Rattle.mh_consts.specs.Constant.{value as value_of};
 ghost use Rattle.mh_consts.specs.Expression.{ex_of, given_of, parts_of, exs};
 ghost use Rattle.mh_consts.specs.Expression as plain;
 ghost use Rattle.mh_exprs.specs.Constant as spec;
-ghost use Rattle.mh_exprs.specs.Step.{Gives};
 
-use crate::fault::Fault;
 use crate::locals::Locals;
-use mh_consts::{Builtin, Const, Scope, is_plain, value};
+use mh_consts::{Builtin, Const, Scope, is_method, is_plain, name_in, value};
 use mh_pytree::{Argument, PyExpr};
-use mh_text::{Memory, Refusal, Text};
+use mh_text::{Code, Fault, Memory, Refusal, Text};
 use std::alloc::Global;
-
-/// The name that an expression is, brackets left out.
-#[tactic(auto, using(mh_consts::proofs::Forms::forms))]
-pub fn name_in(e: &PyExpr) -> Option<&Text>
-    ensures { option_copied result ≡ plain.name_in (ex_of e.now) }
-{
-    match e {
-        PyExpr::Name(name) => Some(name),
-        PyExpr::Group(a) => name_in(a.get()),
-        PyExpr::Number(_)
-        | PyExpr::Str(_)
-        | PyExpr::True
-        | PyExpr::False
-        | PyExpr::None
-        | PyExpr::Bracketed(_)
-        | PyExpr::Tuple(_)
-        | PyExpr::List(_)
-        | PyExpr::Comprehension(_, _, _)
-        | PyExpr::Not(_)
-        | PyExpr::Unary(_, _)
-        | PyExpr::Binary(_, _, _)
-        | PyExpr::Attribute(_, _)
-        | PyExpr::Call(_, _)
-        | PyExpr::Index(_, _)
-        | PyExpr::Slice(_, _, _)
-        | PyExpr::Whole(_) => None,
-    }
-}
-
-/// Whether an expression is an attribute, brackets left out, so that a call of it is one of a method.
-#[tactic(auto, using(crate::proofs::ConstantForms::method_forms))]
-pub fn is_attribute(e: &PyExpr) -> bool
-    ensures { result ≡ is_some (plain.attribute_in (ex_of e.now)) }
-{
-    match e {
-        PyExpr::Attribute(_, _) => true,
-        PyExpr::Group(a) => is_attribute(a.get()),
-        PyExpr::Name(_)
-        | PyExpr::Number(_)
-        | PyExpr::Str(_)
-        | PyExpr::True
-        | PyExpr::False
-        | PyExpr::None
-        | PyExpr::Bracketed(_)
-        | PyExpr::Tuple(_)
-        | PyExpr::List(_)
-        | PyExpr::Comprehension(_, _, _)
-        | PyExpr::Not(_)
-        | PyExpr::Unary(_, _)
-        | PyExpr::Binary(_, _, _)
-        | PyExpr::Call(_, _)
-        | PyExpr::Index(_, _)
-        | PyExpr::Slice(_, _, _)
-        | PyExpr::Whole(_) => false,
-    }
-}
 
 /// Whether a name is that of a local.
 pub fn is_local(locals: &Locals, t: &Text) -> bool
@@ -202,7 +145,7 @@ fn is_len(s: &Scope, f: &PyExpr) -> bool
 }
 
 /// The value of an expression, or why it has none.
-pub fn known(alloc: Global, e: &PyExpr, s: &Scope) -> Result<Const, Fault>
+pub fn known(alloc: Global, e: &PyExpr, s: &Scope) -> Result<Const, Fault<Code>>
     ensures { Gives (value_of s.now (ex_of e.now)) result }
 {
     match value(alloc, e, s) {
@@ -242,11 +185,15 @@ fn is_constant(alloc: Global, s: &Scope, locals: &Locals, e: &PyExpr) -> Result<
         PyExpr::Not(a) => is_constant(alloc, s, locals, a.get()),
         PyExpr::Unary(_, a) => is_constant(alloc, s, locals, a.get()),
         PyExpr::Binary(_, a, b) => {
-            Ok(is_constant(alloc, s, locals, a.get())? && is_constant(alloc, s, locals, b.get())?)
+            if is_constant(alloc, s, locals, a.get())? {
+                is_constant(alloc, s, locals, b.get())
+            } else {
+                Ok(false)
+            }
         }
         PyExpr::Attribute(_, _) => is_known(alloc, s, locals, e),
         PyExpr::Call(f, arguments) => {
-            if is_attribute(f.get()) {
+            if is_method(f.get()) {
                 Ok(false)
             } else if is_len(s, f.get()) {
                 is_known(alloc, s, locals, e)
@@ -257,18 +204,27 @@ fn is_constant(alloc: Global, s: &Scope, locals: &Locals, e: &PyExpr) -> Result<
             }
         }
         PyExpr::Index(a, b) => {
-            Ok(is_constant(alloc, s, locals, a.get())? && is_constant(alloc, s, locals, b.get())?)
+            if is_constant(alloc, s, locals, a.get())? {
+                is_constant(alloc, s, locals, b.get())
+            } else {
+                Ok(false)
+            }
         }
-        PyExpr::Slice(a, b, c) => match c {
-            None => Ok(
-                is_constant(alloc, s, locals, a.get())? && is_constant(alloc, s, locals, b.get())?,
-            ),
-            Some(c) => Ok(
-                is_constant(alloc, s, locals, a.get())?
-                    && is_constant(alloc, s, locals, b.get())?
-                    && is_constant(alloc, s, locals, c.get())?,
-            ),
-        },
+        PyExpr::Slice(a, b, c) => {
+            if !is_constant(alloc, s, locals, a.get())? {
+                return Ok(false);
+            }
+            match c {
+                None => is_constant(alloc, s, locals, b.get()),
+                Some(c) => {
+                    if is_constant(alloc, s, locals, b.get())? {
+                        is_constant(alloc, s, locals, c.get())
+                    } else {
+                        Ok(false)
+                    }
+                }
+            }
+        }
         PyExpr::Whole(_) => Ok(false),
     }
 }

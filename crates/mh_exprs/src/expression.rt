@@ -1,5 +1,6 @@
 // How an expression of a generator is read.
 ghost use Rattle.std.specs.Prelude.{true, false, ◌≡◌, ◌<◌, map, Some, None, IfSome, MatchOption};
+ghost use Rattle.mh_text.specs.Faults.{Gives};
 ghost use Rattle.mh_pytree.specs.Depth.{expr_depth};
 ghost use Rattle.mh_exprs.specs.Operations.{empty_row as empty};
 ghost use Rattle.mh_consts.specs.Expression.{ex_of, given_of, keys_of, parts_of};
@@ -8,11 +9,10 @@ ghost use Rattle.mh_exprs.specs.Calls as calls;
 ghost use Rattle.mh_exprs.specs.Expression as spec;
 ghost use Rattle.mh_exprs.specs.Leaves as leaves;
 ghost use Rattle.mh_exprs.specs.Operations as operations;
-ghost use Rattle.mh_exprs.specs.Step.{Gives, Grows};
+ghost use Rattle.mh_exprs.specs.Step.{Grows};
 
-use crate::calls::{callee_of, collection, is_maker, plan_of};
-use crate::constant::{folds, is_attribute, known};
-use crate::fault::Fault;
+use crate::calls::{callee_named, callee_of, collection, is_maker, plan_of};
+use crate::constant::{folds, known};
 use crate::leaves::{integer, leaf, name};
 use crate::locals::Locals;
 use crate::memories::{element, tuple_element};
@@ -22,10 +22,10 @@ use crate::operations::{
     read_signed, signed, slice, to_integer, to_truth, unbounded, zero_end,
 };
 use crate::typed::{Row, Typed, Work};
-use mh_consts::Scope;
+use mh_consts::{Scope, maker};
 use mh_design::{Design, GExpr};
 use mh_pytree::{Argument, Operator, PyExpr, Sign};
-use mh_text::{Code, Text};
+use mh_text::{Code, Fault, Text};
 use sqlite_items::Boxed;
 use std::alloc::Global;
 
@@ -40,7 +40,12 @@ fn is_wide(sign: Sign) -> bool
 }
 
 /// `t.name(..)`
-fn method(alloc: Global, name: &Text, arguments: &[Argument], t: Typed) -> Result<Typed, Fault>
+fn method(
+    alloc: Global,
+    name: &Text,
+    arguments: &[Argument],
+    t: Typed,
+) -> Result<Typed, Fault<Code>>
     ensures { Gives (spec.method name.now (keys_of (map given_of arguments.now)) t) result }
 {
     if !is_word(name, b"signed") {
@@ -63,7 +68,7 @@ pub fn read(
     wide: bool,
     e: &PyExpr,
     d: &mut Design,
-) -> Result<Typed, Fault>
+) -> Result<Typed, Fault<Code>>
     ensures { Grows (spec.read s.now locals.now w.now wide (ex_of e.now) d.old) result d.new }
 {
     Ok(part(alloc, s, locals, w, wide, e, d)?.into_inner())
@@ -76,7 +81,7 @@ fn folded(
     wide: bool,
     e: &PyExpr,
     d: &mut Design,
-) -> Result<Boxed<Typed>, Fault>
+) -> Result<Boxed<Typed>, Fault<Code>>
     ensures { Grows (spec.folded s.now wide (ex_of e.now) d.old) result d.new }
 {
     let v = known(alloc, e, s)?;
@@ -94,7 +99,7 @@ pub fn part(
     wide: bool,
     e: &PyExpr,
     d: &mut Design,
-) -> Result<Boxed<Typed>, Fault>
+) -> Result<Boxed<Typed>, Fault<Code>>
     ensures { Grows (spec.read s.now locals.now w.now wide (ex_of e.now) d.old) result d.new }
 {
     if folds(alloc, s, locals, e)? {
@@ -104,7 +109,13 @@ pub fn part(
 }
 
 /// What a name is.
-fn named(s: &Scope, locals: &Locals, w: &Work, t: &Text, d: &mut Design) -> Result<Typed, Fault>
+fn named(
+    s: &Scope,
+    locals: &Locals,
+    w: &Work,
+    t: &Text,
+    d: &mut Design,
+) -> Result<Typed, Fault<Code>>
     ensures { Grows (leaves.name s.now locals.now w.now t.now d.old) result d.new }
 {
     Ok(name(s, locals, w, t, d)?)
@@ -120,7 +131,7 @@ fn form(
     w: &Work,
     e: &PyExpr,
     d: &mut Design,
-) -> Result<Typed, Fault>
+) -> Result<Typed, Fault<Code>>
     ensures { Grows (spec.read_form s.now locals.now w.now (ex_of e.now) d.old) result d.new }
 {
     match e {
@@ -158,7 +169,7 @@ fn negation(
     w: &Work,
     a: &PyExpr,
     d: &mut Design,
-) -> Result<Typed, Fault>
+) -> Result<Typed, Fault<Code>>
     ensures { Grows (spec.on_one (spec.read s.now locals.now w.now false (ex_of a.now)) operations.negated d.old) result d.new }
 {
     let t = part(alloc, s, locals, w, false, a, d)?;
@@ -175,7 +186,7 @@ fn unary(
     sign: Sign,
     a: &PyExpr,
     d: &mut Design,
-) -> Result<Typed, Fault>
+) -> Result<Typed, Fault<Code>>
     ensures { Grows (spec.on_one (spec.read s.now locals.now w.now (spec.is_wide sign) (ex_of a.now)) (operations.signed sign) d.old) result d.new }
 {
     let t = part(alloc, s, locals, w, is_wide(sign), a, d)?;
@@ -193,7 +204,7 @@ fn binary(
     a: &PyExpr,
     b: &PyExpr,
     d: &mut Design,
-) -> Result<Typed, Fault>
+) -> Result<Typed, Fault<Code>>
     ensures { Grows (spec.on_two (spec.read s.now locals.now w.now false (ex_of a.now)) (spec.read s.now locals.now w.now false (ex_of b.now)) (operations.operated op) d.old) result d.new }
 {
     let t = part(alloc, s, locals, w, false, a, d)?;
@@ -211,7 +222,7 @@ fn member(
     a: &PyExpr,
     name: &Text,
     d: &mut Design,
-) -> Result<Typed, Fault>
+) -> Result<Typed, Fault<Code>>
     ensures { Grows (spec.on_one (spec.read s.now locals.now w.now true (ex_of a.now)) (operations.attribute name.now) d.old) result d.new }
 {
     let t = part(alloc, s, locals, w, true, a, d)?;
@@ -229,7 +240,7 @@ fn slice_to(
     i: &PyExpr,
     j: &PyExpr,
     d: &mut Design,
-) -> Result<Typed, Fault>
+) -> Result<Typed, Fault<Code>>
     ensures { Grows (spec.on_three (spec.read s.now locals.now w.now true (ex_of a.now)) (spec.read s.now locals.now w.now false (ex_of i.now)) (spec.read s.now locals.now w.now false (ex_of j.now)) operations.slice d.old) result d.new }
 {
     let t = part(alloc, s, locals, w, true, a, d)?;
@@ -248,7 +259,7 @@ fn index(
     a: &PyExpr,
     i: &PyExpr,
     d: &mut Design,
-) -> Result<Typed, Fault>
+) -> Result<Typed, Fault<Code>>
     ensures { Grows (spec.indexed s.now (calls.collection_of s.now locals.now (ex_of a.now)) (spec.read s.now locals.now w.now true (ex_of a.now)) (spec.read s.now locals.now w.now false (ex_of i.now)) d.old) result d.new }
 {
     match collection(s, locals, a) {
@@ -269,30 +280,12 @@ fn index(
 }
 
 /// Whether an expression is a call of `intbv` or `modbv`.
-#[tactic(auto, using(crate::proofs::Forms::makers))]
 fn is_made(s: &Scope, locals: &Locals, e: &PyExpr) -> bool
     ensures { result ≡ spec.is_made_by s.now locals.now (plain.maker (ex_of e.now)) }
 {
-    match e {
-        PyExpr::Group(a) => is_made(s, locals, a.get()),
-        PyExpr::Call(f, _) => !is_attribute(f.get()) && is_maker(callee_of(s, locals, f.get())),
-        PyExpr::Name(_)
-        | PyExpr::Number(_)
-        | PyExpr::Str(_)
-        | PyExpr::True
-        | PyExpr::False
-        | PyExpr::None
-        | PyExpr::Bracketed(_)
-        | PyExpr::Tuple(_)
-        | PyExpr::List(_)
-        | PyExpr::Comprehension(_, _, _)
-        | PyExpr::Not(_)
-        | PyExpr::Unary(_, _)
-        | PyExpr::Binary(_, _, _)
-        | PyExpr::Attribute(_, _)
-        | PyExpr::Index(_, _)
-        | PyExpr::Slice(_, _, _)
-        | PyExpr::Whole(_) => false,
+    match maker(e) {
+        None => false,
+        Some(t) => is_maker(callee_named(s, locals, t)),
     }
 }
 
@@ -307,7 +300,7 @@ fn slice_from(
     a: &PyExpr,
     i: &PyExpr,
     d: &mut Design,
-) -> Result<Typed, Fault>
+) -> Result<Typed, Fault<Code>>
     ensures { Grows (spec.read_form s.now locals.now w.now (plain.slice_from (plain.maker (ex_of a.now)) (ex_of a.now) (ex_of i.now)) d.old) result d.new }
 {
     if is_made(s, locals, a) {
@@ -358,7 +351,7 @@ fn call(
     f: &PyExpr,
     arguments: &[Argument],
     d: &mut Design,
-) -> Result<Typed, Fault>
+) -> Result<Typed, Fault<Code>>
     ensures { Grows (spec.read_form s.now locals.now w.now (plain.called (ex_of f.now) (keys_of (map given_of arguments.now)) (parts_of (map given_of arguments.now))) d.old) result d.new }
 {
     match method_of(f) {
@@ -380,34 +373,99 @@ fn called(
     f: &PyExpr,
     arguments: &[Argument],
     d: &mut Design,
-) -> Result<Typed, Fault>
+) -> Result<Typed, Fault<Code>>
     ensures { Grows (spec.called_with s.now locals.now w.now (calls.plan_of (calls.callee_of s.now locals.now (ex_of f.now)) (keys_of (map given_of arguments.now))) (parts_of (map given_of arguments.now)) d.old) result d.new }
 {
     match plan_of(callee_of(s, locals, f), arguments) {
         Plan::Refused(code) => Err(Fault::Broken(code)),
         Plan::Now => Ok(integer(GExpr::Now)),
-        Plan::Length => {
-            let t = first(alloc, s, locals, w, true, arguments, d)?;
-            Ok(length(t.get())?)
-        }
-        Plan::Integer => {
-            let t = first(alloc, s, locals, w, false, arguments, d)?;
-            to_integer(alloc, t.into_inner())
-        }
-        Plan::Truth => {
-            let t = first(alloc, s, locals, w, false, arguments, d)?;
-            to_truth(alloc, t.into_inner())
-        }
-        Plan::Unbounded => {
-            let t = first(alloc, s, locals, w, false, arguments, d)?;
-            unbounded(alloc, t.into_inner())
-        }
-        Plan::Row => {
-            let r = row(alloc, s, locals, w, arguments, d)?;
-            Ok(concatenated(r))
-        }
+        Plan::Length => length_of(alloc, s, locals, w, arguments, d),
+        Plan::Integer => integer_of(alloc, s, locals, w, arguments, d),
+        Plan::Truth => truth_of(alloc, s, locals, w, arguments, d),
+        Plan::Unbounded => unbounded_of(alloc, s, locals, w, arguments, d),
+        Plan::Row => row_of(alloc, s, locals, w, arguments, d),
         Plan::Misfit => misfit(alloc, s, locals, w, arguments, d),
     }
+}
+
+/// `len(..)`
+#[cycle(read)]
+fn length_of(
+    alloc: Global,
+    s: &Scope,
+    locals: &Locals,
+    w: &Work,
+    arguments: &[Argument],
+    d: &mut Design,
+) -> Result<Typed, Fault<Code>>
+    ensures { Grows (spec.on_one (spec.first s.now locals.now w.now true (parts_of (map given_of arguments.now))) operations.length d.old) result d.new }
+{
+    let t = first(alloc, s, locals, w, true, arguments, d)?;
+    Ok(length(t.get())?)
+}
+
+/// `int(..)`
+#[cycle(read)]
+fn integer_of(
+    alloc: Global,
+    s: &Scope,
+    locals: &Locals,
+    w: &Work,
+    arguments: &[Argument],
+    d: &mut Design,
+) -> Result<Typed, Fault<Code>>
+    ensures { Grows (spec.on_one (spec.first s.now locals.now w.now false (parts_of (map given_of arguments.now))) operations.to_integer d.old) result d.new }
+{
+    let t = first(alloc, s, locals, w, false, arguments, d)?;
+    to_integer(alloc, t.into_inner())
+}
+
+/// `bool(..)`
+#[cycle(read)]
+fn truth_of(
+    alloc: Global,
+    s: &Scope,
+    locals: &Locals,
+    w: &Work,
+    arguments: &[Argument],
+    d: &mut Design,
+) -> Result<Typed, Fault<Code>>
+    ensures { Grows (spec.on_one (spec.first s.now locals.now w.now false (parts_of (map given_of arguments.now))) operations.to_truth d.old) result d.new }
+{
+    let t = first(alloc, s, locals, w, false, arguments, d)?;
+    to_truth(alloc, t.into_inner())
+}
+
+/// `intbv(..)` or `modbv(..)` without bounds
+#[cycle(read)]
+fn unbounded_of(
+    alloc: Global,
+    s: &Scope,
+    locals: &Locals,
+    w: &Work,
+    arguments: &[Argument],
+    d: &mut Design,
+) -> Result<Typed, Fault<Code>>
+    ensures { Grows (spec.on_one (spec.first s.now locals.now w.now false (parts_of (map given_of arguments.now))) operations.unbounded d.old) result d.new }
+{
+    let t = first(alloc, s, locals, w, false, arguments, d)?;
+    unbounded(alloc, t.into_inner())
+}
+
+/// `concat(..)`
+#[cycle(read)]
+fn row_of(
+    alloc: Global,
+    s: &Scope,
+    locals: &Locals,
+    w: &Work,
+    arguments: &[Argument],
+    d: &mut Design,
+) -> Result<Typed, Fault<Code>>
+    ensures { Grows (spec.joined_row (spec.row s.now locals.now w.now empty (parts_of (map given_of arguments.now))) d.old) result d.new }
+{
+    let r = row(alloc, s, locals, w, arguments, d)?;
+    Ok(concatenated(r))
 }
 
 /// The first argument.
@@ -420,7 +478,7 @@ fn first(
     wide: bool,
     arguments: &[Argument],
     d: &mut Design,
-) -> Result<Boxed<Typed>, Fault>
+) -> Result<Boxed<Typed>, Fault<Code>>
     ensures { Grows (spec.first s.now locals.now w.now wide (parts_of (map given_of arguments.now)) d.old) result d.new }
 {
     for part in arguments {
@@ -440,7 +498,7 @@ fn argument(
     wide: bool,
     a: &Argument,
     d: &mut Design,
-) -> Result<Boxed<Typed>, Fault>
+) -> Result<Boxed<Typed>, Fault<Code>>
     ensures { Grows (spec.read s.now locals.now w.now wide (plain.part_of (given_of a.now)) d.old) result d.new }
 {
     part(alloc, s, locals, w, wide, &a.value, d)
@@ -456,7 +514,7 @@ fn row(
     w: &Work,
     arguments: &[Argument],
     d: &mut Design,
-) -> Result<Row, Fault>
+) -> Result<Row, Fault<Code>>
     ensures { Grows (spec.row s.now locals.now w.now empty (parts_of (map given_of arguments.now)) d.old) result d.new }
 {
     let mut r = empty_row(alloc);
@@ -477,7 +535,7 @@ fn misfit(
     w: &Work,
     arguments: &[Argument],
     d: &mut Design,
-) -> Result<Typed, Fault>
+) -> Result<Typed, Fault<Code>>
     ensures { Grows (spec.misfit (spec.all s.now locals.now w.now (parts_of (map given_of arguments.now))) d.old) result d.new }
 {
     for part in arguments {

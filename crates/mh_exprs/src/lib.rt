@@ -7,7 +7,6 @@
 mod calls;
 mod constant;
 mod expression;
-mod fault;
 mod leaves;
 mod locals;
 mod memories;
@@ -15,12 +14,9 @@ mod names;
 mod operations;
 mod typed;
 
-pub use calls::{
-    all_positional, callee_named, callee_of, form_of, is_maker, is_named_call, outside_in,
-};
-pub use constant::{folds, is_attribute, is_local, known, name_in, names_local, outside};
+pub use calls::{callee_named, callee_of, form_of, is_maker, is_named_call, outside_in};
+pub use constant::{folds, is_local, known, names_local, outside};
 pub use expression::{part, read};
-pub use fault::Fault;
 pub use leaves::{integer, is_assigned, kind_at, leaf, local};
 pub use locals::Locals;
 pub use memories::{cell, place_in};

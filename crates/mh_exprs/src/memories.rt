@@ -5,14 +5,13 @@ ghost use Rattle.mh_consts.specs.Outcome.{lent};
 ghost use Rattle.mh_exprs.specs.Leaves as spec;
 ghost use Rattle.mh_exprs.specs.Step.{Grows};
 
-use crate::fault::Fault;
 use crate::leaves::{declared, integer, leaf};
 use crate::typed::Typed;
 use mh_consts::{Const, Scope};
 use mh_design::{
     Design, GExpr, Kind, MemDecl, TableDecl, cells_kind, constant_of, index_keeps, is_number,
 };
-use mh_text::{Code, Memory, Text};
+use mh_text::{Code, Fault, Memory, Text};
 use sqlite_items::{Boxed, Items, at};
 use std::alloc::Global;
 
@@ -48,7 +47,7 @@ fn new_mem(
     list: u32,
     cells: Items<u32>,
     kind: Kind,
-) -> Result<(u32, Kind), Fault>
+) -> Result<(u32, Kind), Fault<Code>>
     ensures { Grows (Ok ((length d.old.mems, kind), spec.new_mem d.old list cells kind)) result d.new }
 {
     let number = d.mems.len();
@@ -71,7 +70,7 @@ fn cells_met(
     list: u32,
     cells: Option<Items<u32>>,
     d: &mut Design,
-) -> Result<(u32, Kind), Fault>
+) -> Result<(u32, Kind), Fault<Code>>
     ensures { Grows (spec.cells_met list cells d.old) result d.new }
 {
     match cells {
@@ -91,7 +90,12 @@ fn mem_of(mems: &[MemDecl], list: u32) -> Option<usize>
 }
 
 /// The number and the kind of a list's memory.
-fn memory(alloc: Global, list: u32, vs: &[Const], d: &mut Design) -> Result<(u32, Kind), Fault>
+fn memory(
+    alloc: Global,
+    list: u32,
+    vs: &[Const],
+    d: &mut Design,
+) -> Result<(u32, Kind), Fault<Code>>
     ensures { Grows (spec.memory list vs.now d.old) result d.new }
 {
     match mem_of(d.mems.as_slice(), list) {
@@ -128,7 +132,7 @@ fn cell_in(
     t: &Typed,
     vs: &[Const],
     d: &mut Design,
-) -> Result<(u32, Kind), Fault>
+) -> Result<(u32, Kind), Fault<Code>>
     ensures { Grows (spec.cell_in list t.now vs.now d.old) result d.new }
 {
     match vs {
@@ -148,7 +152,7 @@ pub fn cell(
     list: u32,
     t: &Typed,
     d: &mut Design,
-) -> Result<(u32, Kind), Fault>
+) -> Result<(u32, Kind), Fault<Code>>
     ensures { Grows (spec.cell s.now list t.now d.old) result d.new }
 {
     match s.list(list) {
@@ -164,7 +168,7 @@ pub(crate) fn element(
     list: u32,
     t: Typed,
     d: &mut Design,
-) -> Result<Typed, Fault>
+) -> Result<Typed, Fault<Code>>
     ensures { Grows (spec.element s.now list t d.old) result d.new }
 {
     let m = cell(alloc, s, list, &t, d)?;
@@ -226,7 +230,7 @@ fn table_of(tables: &[TableDecl], values: &[i128]) -> Option<usize>
 }
 
 /// A table more.
-fn new_table(alloc: Global, d: &mut Design, values: Items<i128>) -> Result<u32, Fault>
+fn new_table(alloc: Global, d: &mut Design, values: Items<i128>) -> Result<u32, Fault<Code>>
     ensures { Grows (Ok (length d.old.tables, spec.new_table d.old values)) result d.new }
 {
     let number = d.tables.len();
@@ -241,7 +245,7 @@ fn new_table(alloc: Global, d: &mut Design, values: Items<i128>) -> Result<u32, 
 }
 
 /// The number of the table with these elements.
-fn table(alloc: Global, values: Items<i128>, d: &mut Design) -> Result<u32, Fault>
+fn table(alloc: Global, values: Items<i128>, d: &mut Design) -> Result<u32, Fault<Code>>
     ensures { Grows (spec.table values d.old) result d.new }
 {
     match table_of(d.tables.as_slice(), values.as_slice()) {
@@ -262,7 +266,7 @@ fn table_element(
     values: Items<i128>,
     t: Typed,
     d: &mut Design,
-) -> Result<Typed, Fault>
+) -> Result<Typed, Fault<Code>>
     ensures { Grows (spec.table_element values t d.old) result d.new }
 {
     index_at(values.len(), &t)?;
@@ -289,7 +293,7 @@ pub fn place_in(vs: &[Const], i: Option<i128>) -> Result<&Const, Code>
 }
 
 /// The item of a tuple that isn't a table, at a constant index.
-fn item_of(vs: &[Const], t: &Typed, d: &mut Design) -> Result<Typed, Fault>
+fn item_of(vs: &[Const], t: &Typed, d: &mut Design) -> Result<Typed, Fault<Code>>
     ensures { Grows (spec.item_of vs.now t.now d.old) result d.new }
 {
     let v = place_in(vs, constant_of(&t.expr))?;
@@ -302,7 +306,7 @@ pub(crate) fn tuple_element(
     vs: &[Const],
     t: Typed,
     d: &mut Design,
-) -> Result<Typed, Fault>
+) -> Result<Typed, Fault<Code>>
     ensures { Grows (spec.tuple_element vs.now t d.old) result d.new }
 {
     if vs.is_empty() {

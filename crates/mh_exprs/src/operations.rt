@@ -1,14 +1,13 @@
 // What the operators of a generator give on parts that were read.
 ghost use Rattle.std.specs.Prelude.{◌≡◌, bytes_eq, Ok};
+ghost use Rattle.mh_text.specs.Faults.{Gives};
 ghost use Rattle.mh_text.specs.declared.code.Code.TheVariants as code;
 ghost use Rattle.mh_design.specs.Kinds as kinds;
 ghost use Rattle.mh_design.specs.declared.expression.GExpr.TheVariants as e;
 ghost use Rattle.mh_consts.specs.Outcome as outcome;
 ghost use Rattle.mh_exprs.specs.Leaves as leaves;
 ghost use Rattle.mh_exprs.specs.Operations as spec;
-ghost use Rattle.mh_exprs.specs.Step.{Gives};
 
-use crate::fault::Fault;
 use crate::leaves::{integer, truth};
 use crate::typed::{Row, Typed};
 use mh_design::{
@@ -17,7 +16,7 @@ use mh_design::{
 };
 use mh_num::{Bounds, add, sub, width};
 use mh_pytree::{Operator, Sign};
-use mh_text::{Code, Text};
+use mh_text::{Code, Fault, Text};
 use sqlite_items::{Boxed, Items};
 use std::alloc::Global;
 
@@ -37,7 +36,7 @@ fn of_kind(expr: GExpr, width: Option<i128>, kind: Option<ValueKind>) -> Result<
 }
 
 /// An operator on one operand.
-fn unary(alloc: Global, op: UnaryOp, width: Option<i128>, t: Typed) -> Result<Typed, Fault>
+fn unary(alloc: Global, op: UnaryOp, width: Option<i128>, t: Typed) -> Result<Typed, Fault<Code>>
     ensures { Gives (spec.of_kind (e.Unary op t.expr) width (kinds.unary_kind op t.kind)) result }
 {
     let kind = unary_kind(op, t.kind);
@@ -46,7 +45,7 @@ fn unary(alloc: Global, op: UnaryOp, width: Option<i128>, t: Typed) -> Result<Ty
 }
 
 /// `-t`, `+t` or `~t`
-pub(crate) fn signed(alloc: Global, sign: Sign, t: Typed) -> Result<Typed, Fault>
+pub(crate) fn signed(alloc: Global, sign: Sign, t: Typed) -> Result<Typed, Fault<Code>>
     ensures { Gives (spec.signed sign t) result }
 {
     match sign {
@@ -60,14 +59,14 @@ pub(crate) fn signed(alloc: Global, sign: Sign, t: Typed) -> Result<Typed, Fault
 }
 
 /// `not t`
-pub(crate) fn negated(alloc: Global, t: Typed) -> Result<Typed, Fault>
+pub(crate) fn negated(alloc: Global, t: Typed) -> Result<Typed, Fault<Code>>
     ensures { Gives (spec.negated t) result }
 {
     unary(alloc, UnaryOp::Not, None, t)
 }
 
 /// An operator on two operands.
-fn both(alloc: Global, op: BinaryOp, t: Typed, u: Typed) -> Result<Typed, Fault>
+fn both(alloc: Global, op: BinaryOp, t: Typed, u: Typed) -> Result<Typed, Fault<Code>>
     ensures { Gives (spec.both op t u) result }
 {
     let kind = binary_kind(op, t.kind, u.kind);
@@ -76,7 +75,7 @@ fn both(alloc: Global, op: BinaryOp, t: Typed, u: Typed) -> Result<Typed, Fault>
 }
 
 /// `t and u`
-fn conjunction(alloc: Global, t: Typed, u: Typed) -> Result<Typed, Fault>
+fn conjunction(alloc: Global, t: Typed, u: Typed) -> Result<Typed, Fault<Code>>
     ensures { Gives (spec.logical (e.And t.expr u.expr) t u) result }
 {
     if !(is_number(t.kind) && is_number(u.kind)) {
@@ -86,7 +85,7 @@ fn conjunction(alloc: Global, t: Typed, u: Typed) -> Result<Typed, Fault>
 }
 
 /// `t or u`
-fn disjunction(alloc: Global, t: Typed, u: Typed) -> Result<Typed, Fault>
+fn disjunction(alloc: Global, t: Typed, u: Typed) -> Result<Typed, Fault<Code>>
     ensures { Gives (spec.logical (e.Or t.expr u.expr) t u) result }
 {
     if !(is_number(t.kind) && is_number(u.kind)) {
@@ -96,7 +95,7 @@ fn disjunction(alloc: Global, t: Typed, u: Typed) -> Result<Typed, Fault>
 }
 
 /// An operator between two parts.
-pub fn operated(alloc: Global, op: Operator, t: Typed, u: Typed) -> Result<Typed, Fault>
+pub fn operated(alloc: Global, op: Operator, t: Typed, u: Typed) -> Result<Typed, Fault<Code>>
     ensures { Gives (spec.operated op t u) result }
 {
     match op {
@@ -146,14 +145,14 @@ pub fn bit_fits(b: &Bounds, i: &Typed) -> Result<(), Code>
 }
 
 /// `t[i]`, where it fits.
-fn one_bit(alloc: Global, t: Typed, i: Typed) -> Result<Typed, Fault>
+fn one_bit(alloc: Global, t: Typed, i: Typed) -> Result<Typed, Fault<Code>>
     ensures { Gives (Ok (leaves.truth (e.Bit t.expr i.expr))) result }
 {
     Ok(truth(GExpr::Bit(Boxed::new(alloc, t.expr)?, Boxed::new(alloc, i.expr)?)))
 }
 
 /// `t[i]`
-pub(crate) fn bit(alloc: Global, t: Typed, i: Typed) -> Result<Typed, Fault>
+pub(crate) fn bit(alloc: Global, t: Typed, i: Typed) -> Result<Typed, Fault<Code>>
     ensures { Gives (spec.bit t i) result }
 {
     let b = bounds_in(t.base)?;
@@ -186,7 +185,7 @@ pub fn slice_fits(b: &Bounds, i: &Typed, j: &Typed) -> Result<(), Code>
 }
 
 /// `t[i:j]`, where it fits.
-fn sliced(alloc: Global, t: Typed, i: Typed, j: Typed) -> Result<Typed, Fault>
+fn sliced(alloc: Global, t: Typed, i: Typed, j: Typed) -> Result<Typed, Fault<Code>>
     ensures { Gives (Ok (spec.sliced_as t i j)) result }
 {
     let width = width_between(constant_of(&i.expr), constant_of(&j.expr));
@@ -204,7 +203,7 @@ fn sliced(alloc: Global, t: Typed, i: Typed, j: Typed) -> Result<Typed, Fault>
 }
 
 /// `t[i:j]`
-pub(crate) fn slice(alloc: Global, t: Typed, i: Typed, j: Typed) -> Result<Typed, Fault>
+pub(crate) fn slice(alloc: Global, t: Typed, i: Typed, j: Typed) -> Result<Typed, Fault<Code>>
     ensures { Gives (spec.slice t i j) result }
 {
     let b = bounds_in(t.base)?;
@@ -264,7 +263,7 @@ pub(crate) fn length(t: &Typed) -> Result<Typed, Code>
 }
 
 /// `int(t)`
-pub(crate) fn to_integer(alloc: Global, t: Typed) -> Result<Typed, Fault>
+pub(crate) fn to_integer(alloc: Global, t: Typed) -> Result<Typed, Fault<Code>>
     ensures { Gives (spec.to_integer t) result }
 {
     if !is_number(t.kind) {
@@ -274,7 +273,7 @@ pub(crate) fn to_integer(alloc: Global, t: Typed) -> Result<Typed, Fault>
 }
 
 /// `bool(t)`
-pub(crate) fn to_truth(alloc: Global, t: Typed) -> Result<Typed, Fault>
+pub(crate) fn to_truth(alloc: Global, t: Typed) -> Result<Typed, Fault<Code>>
     ensures { Gives (spec.to_truth t) result }
 {
     if !is_number(t.kind) {
@@ -284,7 +283,7 @@ pub(crate) fn to_truth(alloc: Global, t: Typed) -> Result<Typed, Fault>
 }
 
 /// `intbv(t)` or `modbv(t)`
-pub(crate) fn unbounded(alloc: Global, t: Typed) -> Result<Typed, Fault>
+pub(crate) fn unbounded(alloc: Global, t: Typed) -> Result<Typed, Fault<Code>>
     ensures { Gives (spec.unbounded t) result }
 {
     if !is_number(t.kind) {
@@ -294,7 +293,7 @@ pub(crate) fn unbounded(alloc: Global, t: Typed) -> Result<Typed, Fault>
 }
 
 /// `t.signed()`
-pub(crate) fn read_signed(alloc: Global, t: Typed) -> Result<Typed, Fault>
+pub(crate) fn read_signed(alloc: Global, t: Typed) -> Result<Typed, Fault<Code>>
     ensures { Gives (spec.read_signed t) result }
 {
     if !is_bits(t.kind) {
@@ -337,7 +336,7 @@ pub(crate) fn empty_row(alloc: Global) -> Row
 }
 
 /// One more part of a `concat`.
-pub(crate) fn joined(r: Row, t: Typed) -> Result<Row, Fault>
+pub(crate) fn joined(r: Row, t: Typed) -> Result<Row, Fault<Code>>
     ensures { Gives (spec.joined r t) result }
 {
     if !is_part(t.kind) {

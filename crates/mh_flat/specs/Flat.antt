@@ -37,7 +37,8 @@ abbrev mutual
   pub instructions_of : {L E P V S F : Type 0} → Statement E P → ℕ → (after leave again : Position) → ℕ → List (Instruction L E P V S F)
   instructions_of (SetStatement p e) k after leave again d = instruction (Assign p e) after ∷ []
   instructions_of (IfStatement e a b) k after leave again d =
-      instruction (Branch e (first (k + 1) a after) (first (k + 1 + block_size a) b after)) after ∷ (block_instructions a (k + 1) after leave again d ++ block_instructions b (k + 1 + block_size a) after leave again d)
+      instruction (Branch e (first (k + 1) a after) (first (k + 1 + block_size a) b after)) after ∷
+      (block_instructions a (k + 1) after leave again d ++ block_instructions b (k + 1 + block_size a) after leave again d)
   instructions_of (WhileStatement e b) k after leave again d =
       instruction (Repeat e (first (k + 1) b (begun k))) after ∷ block_instructions b (k + 1) (begun k) after (begun k) d
   instructions_of (CountStatement p x y z b) k after leave again d =

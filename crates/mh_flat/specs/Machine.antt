@@ -43,7 +43,8 @@ module _ {L E P V S F : Type 0} (l : Ghosts L E P V S F) where
   operation_action (Branch e one two) after g cs s = with_value g.at (l.value_of e s) (λ v. Moves 1 (cond (l.is_true v) one two))
   operation_action (Repeat e body) after g cs s = with_value g.at (l.value_of e s) (λ v. Moves 1 (cond (l.is_true v) body after))
   operation_action (Iterate p a z d depth body) after g cs s =
-      cond g.begun (counter_turn depth p body after (slice_get cs depth)) (with_value g.at (l.value_of a s) (λ x. with_value g.at (l.value_of z s) (λ y. with_value g.at (l.value_of d s) (λ w. Enters depth (l.number_of x) (l.number_of y) (l.number_of w) (record { at = g.at; begun = true })))))
+      cond g.begun (counter_turn depth p body after (slice_get cs depth)) (with_value g.at (l.value_of a s) (λ x. with_value g.at (l.value_of z s)
+      (λ y. with_value g.at (l.value_of d s) (λ w. Enters depth (l.number_of x) (l.number_of y) (l.number_of w) (record { at = g.at; begun = true })))))
   operation_action (Suspend w) after g cs s = Halts 0 (Waits w) after
   operation_action (Report w) after g cs s = Halts 1 (Says w) after
   operation_action (Assert e) after g cs s =
@@ -89,7 +90,8 @@ module _ {L E P V S F : Type 0} (l : Ghosts L E P V S F) (budget : ℕ) where
   GoesOn (Enters depth n z d g) p s p' s' =
       (1 ≤ budget - p.count) × (p'.position ≡ g) × (p'.counters ≡ slice_set p.counters depth (record { next = Some n; to = z; step = d })) × (p'.count ≡ p.count + 1) × (s' ≡ s)
   GoesOn (Turns depth q n z d g) p s p' s' =
-      (1 ≤ budget - p.count) × (p'.position ≡ g) × ((o : Option ℤ) × IsNext o (n +ℤ d) z d × (p'.counters ≡ slice_set p.counters depth (record { next = o; to = z; step = d }))) × (p'.count ≡ p.count + 1) × (s' ≡ l.counted q n s)
+      (1 ≤ budget - p.count) × (p'.position ≡ g) × ((o : Option ℤ) × IsNext o (n +ℤ d) z d ×
+      (p'.counters ≡ slice_set p.counters depth (record { next = o; to = z; step = d }))) × (p'.count ≡ p.count + 1) × (s' ≡ l.counted q n s)
   GoesOn (Halts k r g) p s p' s' = ⊥
   GoesOn (Fails k f) p s p' s' = ⊥
   GoesOn Ends p s p' s' = ⊥

@@ -37,7 +37,8 @@ module _ {L E P V S F : Type 0} (instructions : List (Instruction L E P V S F)) 
     pub HasStatement : Statement E P → ℕ → (after leave again : Position) → (depth : ℕ) → Type 0
     HasStatement (SetStatement p e) k after leave again d = HasInstruction k (Assign p e) after
     HasStatement (IfStatement e a b) k after leave again d =
-        HasInstruction k (Branch e (first (k + 1) a after) (first (k + 1 + block_size a) b after)) after × HasBlock a (k + 1) after leave again d × HasBlock b (k + 1 + block_size a) after leave again d
+        HasInstruction k (Branch e (first (k + 1) a after) (first (k + 1 + block_size a) b after)) after × HasBlock a (k + 1) after leave again d ×
+        HasBlock b (k + 1 + block_size a) after leave again d
     HasStatement (WhileStatement e b) k after leave again d =
         HasInstruction k (Repeat e (first (k + 1) b (begun k))) after × HasBlock b (k + 1) (begun k) after (begun k) d
     HasStatement (CountStatement p x z w b) k after leave again d =
@@ -73,7 +74,8 @@ module _ {L E P V S F : Type 0} (instructions : List (Instruction L E P V S F)) 
   Does cs (BegunWhile k e b ∷ rest) g leave again d =
       (g ≡ begun k) × (again ≡ begun k) × ((leave' : Position) × (again' : Position) × HasStatement (WhileStatement e b) k leave leave' again' d × Does cs rest leave leave' again' d)
   Does cs (BegunCount k p n z w b ∷ rest) g leave again d =
-      (g ≡ begun k) × (again ≡ begun k) × ((leave' : Position) × (again' : Position) × (d' : ℕ) × (x : E) × (y : E) × (v : E) × (d ≡ suc d') × HasStatement (CountStatement p x y v b) k leave leave' again' d' × HasCounter cs d' n z w × Does cs rest leave leave' again' d')
+      (g ≡ begun k) × (again ≡ begun k) × ((leave' : Position) × (again' : Position) × (d' : ℕ) × (x : E) × (y : E) × (v : E) × (d ≡ suc d') ×
+      HasStatement (CountStatement p x y v b) k leave leave' again' d' × HasCounter cs d' n z w × Does cs rest leave leave' again' d')
 
   -- From a position on, with these counters, the code does these items.
   pub record Stands (cs : List Counter) (xs : List (Item E P)) (g : Position) : Type 0 where

@@ -112,7 +112,8 @@ module _ {L E P V S F : Type 0} (l : Ghosts L E P V S F) where
       with_value at (l.value_of test store) (λ value. Proceeds 1 (cond (l.is_true value) (block_items (at + 1) then_part rest) (block_items (at + 1 + block_size then_part) else_part rest)) store)
   statement_outcome at (WhileStatement test body) rest store = while_turn at test body rest store
   statement_outcome at (CountStatement place from to step body) rest store =
-      with_value at (l.value_of from store) (λ x. with_value at (l.value_of to store) (λ y. with_value at (l.value_of step store) (λ z. Proceeds 1 (BegunCount at place (l.number_of x) (l.number_of y) (l.number_of z) body ∷ rest) store)))
+      with_value at (l.value_of from store) (λ x. with_value at (l.value_of to store) (λ y. with_value at (l.value_of step store) (λ z. Proceeds 1
+      (BegunCount at place (l.number_of x) (l.number_of y) (l.number_of z) body ∷ rest) store)))
   statement_outcome at (WaitStatement number) rest store = Halts 0 (Waits number) rest store
   statement_outcome at (SayStatement number) rest store = Halts 1 (Says number) rest store
   statement_outcome at (CheckStatement test) rest store =
@@ -183,7 +184,8 @@ module _ {L E P V S F : Type 0} (l : Ghosts L E P V S F) (budget : ℕ) where
     pub evaluation : Evaluates xs s n answer items store count
 
   -- Runs of rewritings compose.
-  pub reaches_on : {xs : List (Item E P)} {s : S} {n : ℕ} {ys : List (Item E P)} {t : S} {m : ℕ} {zs : List (Item E P)} {u : S} {p : ℕ} → Reaches xs s n ys t m → Reaches ys t m zs u p → Reaches xs s n zs u p
+  pub reaches_on : {xs : List (Item E P)} {s : S} {n : ℕ} {ys : List (Item E P)} {t : S} {m : ℕ} {zs : List (Item E P)} {u : S} {p : ℕ} → Reaches xs s n ys t m →
+      Reaches ys t m zs u p → Reaches xs s n zs u p
   reaches_on a here = a
   reaches_on a (onward r e le) = onward (reaches_on a r) e le
 

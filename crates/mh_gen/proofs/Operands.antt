@@ -44,9 +44,12 @@ pub total-now : (s : spec.Store) → total s Now ≡ Ok (spec.integer (pos s.tim
 unfolding total
 total-now s = refl
 
-pub total-element : (s : spec.Store) (m : ℕ) (x : Expression) → total s (Operation (ElementOf m) (one x)) ≡ spec.operated s (ElementOf m) (total s x ∷ [])
+pub total-element : (s : spec.Store) (m : ℕ) (x : Expression) → total s (Operation (ElementOf m) (one x)) ≡ spec.with_value (total s x) (λ i. spec.element_of s m i.value)
 unfolding total
-total-element s m x = refl
+total-element s m x = by (total s x) where
+  by : (r : Result spec.Operand spec.Fault) → spec.operated s (ElementOf m) (r ∷ []) ≡ spec.with_value r (λ i. spec.element_of s m i.value)
+  by (Ok i) = refl
+  by (Err f) = refl
 
 pub total-table : (s : spec.Store) (t : ℕ) (x : Expression) → total s (Operation (TableElementOf t) (one x)) ≡ spec.with_value (total s x) (table_given s t)
 unfolding total table_given
@@ -72,13 +75,20 @@ total-slice s x y z = by (total s x) (total s y) (total s z) where
   by (Ok a) (Err f) p = refl
   by (Err f) q p = refl
 
-pub total-unary : (s : spec.Store) (o : UnaryOp) (x : Expression) → total s (Operation (Unary o) (one x)) ≡ spec.operated s (Unary o) (total s x ∷ [])
+pub total-unary : (s : spec.Store) (o : UnaryOp) (x : Expression) → total s (Operation (Unary o) (one x)) ≡ spec.with_value (total s x) (spec.unary_value o)
 unfolding total
-total-unary s o x = refl
+total-unary s o x = by (total s x) where
+  by : (r : Result spec.Operand spec.Fault) → spec.operated s (Unary o) (r ∷ []) ≡ spec.with_value r (spec.unary_value o)
+  by (Ok a) = refl
+  by (Err f) = refl
 
-pub total-binary : (s : spec.Store) (o : BinaryOp) (x y : Expression) → total s (Operation (Binary o) (two x y)) ≡ spec.operated s (Binary o) (total s x ∷ total s y ∷ [])
+pub total-binary : (s : spec.Store) (o : BinaryOp) (x y : Expression) → total s (Operation (Binary o) (two x y)) ≡ spec.with_value (total s x) (λ a. spec.with_value (total s y) (spec.binary_value o a))
 unfolding total
-total-binary s o x y = refl
+total-binary s o x y = by (total s x) (total s y) where
+  by : (r q : Result spec.Operand spec.Fault) → spec.operated s (Binary o) (r ∷ q ∷ []) ≡ spec.with_value r (λ a. spec.with_value q (spec.binary_value o a))
+  by (Ok a) (Ok b) = refl
+  by (Ok a) (Err f) = refl
+  by (Err f) q = refl
 
 pub total-and : (s : spec.Store) (x y : Expression) → total s (Operation And (two x y)) ≡ spec.operated s And (total s x ∷ total s y ∷ [])
 unfolding total
@@ -88,17 +98,26 @@ pub total-or : (s : spec.Store) (x y : Expression) → total s (Operation Or (tw
 unfolding total
 total-or s x y = refl
 
-pub total-signed : (s : spec.Store) (x : Expression) → total s (Operation Signed (one x)) ≡ spec.operated s Signed (total s x ∷ [])
+pub total-signed : (s : spec.Store) (x : Expression) → total s (Operation Signed (one x)) ≡ spec.with_value (total s x) (λ a. Ok (spec.signed_value a))
 unfolding total
-total-signed s x = refl
+total-signed s x = by (total s x) where
+  by : (r : Result spec.Operand spec.Fault) → spec.operated s Signed (r ∷ []) ≡ spec.with_value r (λ a. Ok (spec.signed_value a))
+  by (Ok a) = refl
+  by (Err f) = refl
 
-pub total-int : (s : spec.Store) (x : Expression) → total s (Operation ToInt (one x)) ≡ spec.operated s ToInt (total s x ∷ [])
+pub total-int : (s : spec.Store) (x : Expression) → total s (Operation ToInt (one x)) ≡ spec.with_value (total s x) (λ a. Ok (spec.integer a.value))
 unfolding total
-total-int s x = refl
+total-int s x = by (total s x) where
+  by : (r : Result spec.Operand spec.Fault) → spec.operated s ToInt (r ∷ []) ≡ spec.with_value r (λ a. Ok (spec.integer a.value))
+  by (Ok a) = refl
+  by (Err f) = refl
 
-pub total-bool : (s : spec.Store) (x : Expression) → total s (Operation ToBool (one x)) ≡ spec.operated s ToBool (total s x ∷ [])
+pub total-bool : (s : spec.Store) (x : Expression) → total s (Operation ToBool (one x)) ≡ spec.truth_of (total s x)
 unfolding total
-total-bool s x = refl
+total-bool s x = by (total s x) where
+  by : (r : Result spec.Operand spec.Fault) → spec.operated s ToBool (r ∷ []) ≡ spec.truth_of r
+  by (Ok a) = refl
+  by (Err f) = refl
 
 pub total-concat : (s : spec.Store) (xs : List GExpr) → total s (Operation Concat (row (map expression_of xs))) ≡ left_of_joined s xs (Some (pos 0)) 0
 unfolding total left_of_joined

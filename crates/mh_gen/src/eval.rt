@@ -1,5 +1,5 @@
 // The values of expressions.
-ghost use Rattle.std.specs.Prelude.{◌≡◌, ◌≤◌, ◌≤ℤ◌, ◌+◌, ◌*◌, ◌^◌, min, pos, unsigned_abs, Some, IfSome};
+ghost use Rattle.std.specs.Prelude.{◌≡◌, ◌≤◌, ◌≤ℤ◌, ◌+◌, ◌*◌, ◌^◌, min, pos, unsigned_abs, Ok, Some, IfSome};
 ghost use Rattle.mh_codes.specs.Codes.{code};
 ghost use Rattle.mh_num.specs.Results.{in_i128, left_shift_of};
 ghost use Rattle.mh_design.specs.Tree.{expression_of};
@@ -14,7 +14,7 @@ use crate::indices::{bit_at, slice_at};
 use crate::operand::Operand;
 use crate::operators::{binary, signed, unary};
 use crate::store::{Store, cell, item_or_zero, table_element};
-use mh_design::GExpr;
+use mh_design::{BinaryOp, GExpr, UnaryOp};
 use mh_num::{add, shl};
 
 /// The element of a memory at an index.
@@ -95,6 +95,77 @@ fn wider(width: u8, more: u8) -> u8
     if sum < 128 { sum as u8 } else { 128 }
 }
 
+/// The element of a memory at an index, or the fault of the index.
+fn element_given(s: &Store, mem: u32, i: Result<Operand, Fault>) -> Result<Operand, Fault>
+    ensures { result ≡ spec.with_value i (λ i. spec.element_of s.now mem i.value) }
+{
+    element(s, mem, &i?)
+}
+
+/// The element of a table at an index, or the fault of the index.
+fn table_given(s: &Store, table: u32, i: Result<Operand, Fault>) -> Result<Operand, Fault>
+    ensures { result ≡ spec.with_value i (total.table_given s.now table) }
+{
+    table_at(s, table, &i?)
+}
+
+/// A bit of a value, or the first fault of the parts.
+fn bit_given(a: Result<Operand, Fault>, i: Result<Operand, Fault>) -> Result<Operand, Fault>
+    ensures { result ≡ spec.with_value a (λ a. spec.with_value i (total.bit_given a)) }
+{
+    bit_of(&a?, &i?)
+}
+
+/// A slice of a value, or the first fault of the parts.
+fn slice_given(
+    a: Result<Operand, Fault>,
+    i: Result<Operand, Fault>,
+    j: Result<Operand, Fault>,
+) -> Result<Operand, Fault>
+    ensures { result ≡ spec.with_value a (λ a. spec.with_value i (λ i. spec.with_value j (total.slice_given a i))) }
+{
+    slice_of(&a?, &i?, &j?)
+}
+
+/// An operator on a value, or the fault of the part.
+fn unary_given(op: UnaryOp, a: Result<Operand, Fault>) -> Result<Operand, Fault>
+    ensures { result ≡ spec.with_value a (spec.unary_value op) }
+{
+    unary(op, &a?)
+}
+
+/// An operator on two values, or the first fault of the parts.
+fn binary_given(
+    op: BinaryOp,
+    a: Result<Operand, Fault>,
+    b: Result<Operand, Fault>,
+) -> Result<Operand, Fault>
+    ensures { result ≡ spec.with_value a (λ a. spec.with_value b (spec.binary_value op a)) }
+{
+    binary(op, &a?, &b?)
+}
+
+/// `a.signed()`, or the fault of the part.
+fn signed_given(a: Result<Operand, Fault>) -> Result<Operand, Fault>
+    ensures { result ≡ spec.with_value a (λ a. Ok (spec.signed_value a)) }
+{
+    Ok(signed(&a?))
+}
+
+/// A value as an integer, or the fault of the part.
+fn integer_given(a: Result<Operand, Fault>) -> Result<Operand, Fault>
+    ensures { result ≡ spec.with_value a (λ a. Ok (spec.integer a.value)) }
+{
+    Ok(Operand::integer(a?.value()))
+}
+
+/// A value as a truth value, or the fault of the part.
+fn truth_given(a: Result<Operand, Fault>) -> Result<Operand, Fault>
+    ensures { result ≡ spec.truth_of a }
+{
+    Ok(Operand::truth(a?.is_true()))
+}
+
 /// The value of an expression, with its width at the moment if it has one, or its first fault. Goes
 /// down the tree by recursion, so the caller knows that it is at most as deep as a body may be.
 #[cycle(values)]
@@ -110,16 +181,18 @@ pub fn operand(s: &Store, e: &GExpr) -> Result<Operand, Fault>
         GExpr::Signal(n) => Ok(s.signal_operand(*n)),
         GExpr::Local(n) => Ok(s.local_operand(*n)),
         GExpr::Now => Ok(Operand::integer(s.time() as i128)),
-        GExpr::Element(m, i) => element(s, *m, &operand(s, i.get())?),
-        GExpr::TableElement(t, i) => table_at(s, *t, &operand(s, i.get())?),
-        GExpr::Bit(a, i) => bit_of(&operand(s, a.get())?, &operand(s, i.get())?),
+        GExpr::Element(m, i) => element_given(s, *m, operand(s, i.get())),
+        GExpr::TableElement(t, i) => table_given(s, *t, operand(s, i.get())),
+        GExpr::Bit(a, i) => bit_given(operand(s, a.get()), operand(s, i.get())),
         GExpr::Slice(a, i, j) => {
-            let a = operand(s, a.get())?;
-            let i = operand(s, i.get())?;
-            slice_of(&a, &i, &operand(s, j.get())?)
+            slice_given(
+                operand(s, a.get()),
+                operand(s, i.get()),
+                operand(s, j.get()),
+            )
         }
-        GExpr::Unary(op, a) => unary(*op, &operand(s, a.get())?),
-        GExpr::Binary(op, a, b) => binary(*op, &operand(s, a.get())?, &operand(s, b.get())?),
+        GExpr::Unary(op, a) => unary_given(*op, operand(s, a.get())),
+        GExpr::Binary(op, a, b) => binary_given(*op, operand(s, a.get()), operand(s, b.get())),
         GExpr::And(a, b) => {
             let a = operand(s, a.get())?;
             if a.is_true() {
@@ -139,9 +212,9 @@ pub fn operand(s: &Store, e: &GExpr) -> Result<Operand, Fault>
             }
         }
         GExpr::Concat(parts) => joined(s, parts.as_slice()),
-        GExpr::Signed(a) => Ok(signed(&operand(s, a.get())?)),
-        GExpr::Int(a) => Ok(Operand::integer(operand(s, a.get())?.value())),
-        GExpr::Bool(a) => Ok(Operand::truth(operand(s, a.get())?.is_true())),
+        GExpr::Signed(a) => signed_given(operand(s, a.get())),
+        GExpr::Int(a) => integer_given(operand(s, a.get())),
+        GExpr::Bool(a) => truth_given(operand(s, a.get())),
     }
 }
 

@@ -39,8 +39,8 @@ pub fn driven(alloc: Global, d: &Design, g: &Generator) -> Result<BTreeSet<u32>,
     set_of(alloc, signals.as_slice())
 }
 
-/// How many signals there are. With 2^32 of them a body wants more memory than there is.
-fn signal_count(d: &Design) -> Result<u32, Memory>
+/// How many signals there are. With 2^32 of them a body and a run want more memory than there is.
+pub fn signal_count(d: &Design) -> Result<u32, Memory>
     ensures { IfOk result (λ n. n ≡ length d.now.signals) }
 {
     let count = d.signals.len();

@@ -23,7 +23,7 @@ mod written;
 
 pub use body_code::BodyCode;
 pub use fault::{Fault, FaultNumbers};
-pub use generators::{code, driven};
+pub use generators::{code, driven, signal_count};
 pub use held::Held;
 pub use language::{Expression, LeftSide, MyHdl};
 pub use laws::body_laws;

@@ -3,12 +3,13 @@ use Rattle.std.proofs.Common.{◌≡◌, ℕ, suc, ◌+◌, ◌<◌, ◌≤◌, 
 use Rattle.std.proofs.lemmas.List.{drop_all, map-append}
 use Rattle.std.specs.Option.{option_map}
 use Rattle.mh_pytree.specs.declared.expression.Operator.{Operator}
+use Rattle.mh_pytree.specs.declared.expression.PyExpr.{PyExpr}
 use Rattle.mh_pytree.specs.declared.statement.PyStmt.{PyStmt}
 use Rattle.mh_pytree.specs.declared.statement.PyStmt.TheVariants as tree_of
 use Rattle.mh_pytree.specs.declared.statement.Branch.{Branch as Choice}
 use Rattle.mh_text.specs.declared.code.Code.TheVariants.{E2NotElaborable}
 use Rattle.mh_consts.specs.declared.scope.Scope.{Scope}
-use Rattle.mh_consts.specs.Expression.{Ex}
+use Rattle.mh_consts.specs.Expression.{Ex, ex_of}
 use Rattle.mh_consts.specs.Names.{lookup}
 use Rattle.mh_consts.specs.Outcome.{after}
 use Rattle.mh_design.specs.declared.design.Design.{Design}
@@ -22,8 +23,8 @@ use Rattle.mh_lower.specs.Bodies.{Branches, branches_of, branch_line, for_line, 
 use Rattle.mh_lower.specs.Body as line
 use Rattle.mh_lower.specs.Body.{Lines, Choices, line_of, choice_of, lines, lines_if_any, choices}
 use Rattle.mh_lower.specs.Paths.{Paths, breaks, continues, stops, goes_on, meet}
-use Rattle.mh_lower.specs.declared.fault.Stop.{Stop}
-use Rattle.mh_lower.specs.declared.fault.Stop.TheVariants as stop
+use Rattle.mh_text.specs.declared.fault.Fault.{Fault}
+use Rattle.mh_text.specs.declared.fault.Fault.TheVariants as fault
 use Rattle.mh_lower.specs.Run.{Broken, Runs, placed, placed_with, then}
 use Rattle.mh_lower.specs.Statements.{assign, augment, by_itself, claim, is_stop_call, yields}
 use Rattle.mh_exprs.specs.Step.{just}
@@ -158,12 +159,12 @@ pub left : (allowed : Bool) (l : ℕ) (s t : Statement) (f : Work → Work) (w v
 left true l s t f w v d h e g = ap (λ (y : Statement). Ok (Some y, f w, d)) (sym e) ∙ ap (λ (y : Work). Ok (Some t, y, d)) (sym g)
 left false l s t f w v d h e g = absurd (cc)
 
-pub runs_same : {A B : Type 0} (view : B → A) (r q : Result (A × Work × Design) Broken) (x : Result B Stop) (w : Work) (d : Design) →
+pub runs_same : {A B : Type 0} (view : B → A) (r q : Result (A × Work × Design) Broken) (x : Result B (Fault Broken)) (w : Work) (d : Design) →
     r ≡ q → Runs view r x w d → Runs view q x w d
 runs_same view r q x w d h g = subst (λ y. Runs view y x w d) h g
 
 -- what is refused on the way is refused
-pub raised : {A B : Type 0} (view : B → A) (r q : Result (A × Work × Design) Broken) (x : Result B Stop) (e : Stop) (w : Work) (d : Design) →
+pub raised : {A B : Type 0} (view : B → A) (r q : Result (A × Work × Design) Broken) (x : Result B (Fault Broken)) (e : Fault Broken) (w : Work) (d : Design) →
     x ≡ Err e → r ≡ q → Runs view r (Err e) w d → Runs view q x w d
 raised view r q x e w d h g run = subst (λ y. Runs view q y w d) (sym h) (subst (λ y. Runs view y (Err e) w d) g run)
 
@@ -175,11 +176,27 @@ module _ (s : Scope) (ls : Locals) (instance loop : Bool) where
       ap (λ ys. some (if_line l (λ p. read_choices s ls instance loop l p ([], None) (choices (map choice_of ys))) (read_lines s ls instance loop [] (lines_if_any (option_map (map line_of) other))) w d)) e
       ∙ sym (ap (λ y. one_line s ls instance loop y w d) (ap line_of h ∙ form.line-if l bs other) ∙ line-if s ls instance loop l (choices (map choice_of bs)) (lines_if_any (option_map (map line_of) other)) w d)
 
+  -- a statement whose plain form this is
+  form-read : (x : PyStmt) (a : line.Line) (r : Result (Option Statement × Work × Design) Broken) (w : Work) (d : Design) → line_of x ≡ a → one_line s ls instance loop a w d ≡ r → r ≡ one_line s ls instance loop (line_of x) w d
+  form-read x a r w d h g = sym (ap (λ y. one_line s ls instance loop y w d) h ∙ g)
+
+  pub break-read : (x : PyStmt) (l : ℕ) (w : Work) (d : Design) → x ≡ tree_of.Break l → leave loop l (tree.Break l) breaks w d ≡ one_line s ls instance loop (line_of x) w d
+  break-read x l w d h = form-read x (line.Break l) (leave loop l (tree.Break l) breaks w d) w d (ap line_of h ∙ form.line-break l) (line-break s ls instance loop l w d)
+
+  pub continue-read : (x : PyStmt) (l : ℕ) (w : Work) (d : Design) → x ≡ tree_of.Continue l → leave loop l (tree.Continue l) continues w d ≡ one_line s ls instance loop (line_of x) w d
+  continue-read x l w d h = form-read x (line.Continue l) (leave loop l (tree.Continue l) continues w d) w d (ap line_of h ∙ form.line-continue l) (line-continue s ls instance loop l w d)
+
+  pub yield-read : (x : PyStmt) (l : ℕ) (e : PyExpr) (w : Work) (d : Design) → x ≡ tree_of.Yield l e → some (placed l w (just (yields s ls instance l (ex_of e)) d)) ≡ one_line s ls instance loop (line_of x) w d
+  yield-read x l e w d h = form-read x (line.Yield l (ex_of e)) (some (placed l w (just (yields s ls instance l (ex_of e)) d))) w d (ap line_of h ∙ form.line-yield l e) (line-yield s ls instance loop l (ex_of e) w d)
+
+  pub raise-read : (x : PyStmt) (l : ℕ) (e : PyExpr) (w : Work) (d : Design) → x ≡ tree_of.Raise l e → leave (is_stop_call s ls (ex_of e)) l (tree.Stop l) stops w d ≡ one_line s ls instance loop (line_of x) w d
+  raise-read x l e w d h = form-read x (line.Raise l (ex_of e)) (leave (is_stop_call s ls (ex_of e)) l (tree.Stop l) stops w d) w d (ap line_of h ∙ form.line-raise l e) (line-raise s ls instance loop l (ex_of e) w d)
+
   pub lines_end : (out : List Statement) (xs : List PyStmt) (i : ℕ) (w : Work) (d : Design) → length xs ≤ i →
       body s ls instance loop out (drop i xs) w d ≡ Ok (out, w, d)
   lines_end out xs i w d h = ap (λ ys. body s ls instance loop out ys w d) (drop_all i xs h) ∙ lines-end s ls instance loop out w d
 
-  pub lines_step : (out out2 : List GStmt) (xs : List PyStmt) (i : ℕ) (x : PyStmt) (o : Result (Option GStmt) Stop) (m : Option GStmt) (w v : Work) (d c : Design) →
+  pub lines_step : (out out2 : List GStmt) (xs : List PyStmt) (i : ℕ) (x : PyStmt) (o : Result (Option GStmt) (Fault Broken)) (m : Option GStmt) (w v : Work) (d c : Design) →
       i < length xs → x ≡ get_or xs i x → o ≡ Ok m → Runs (option_map statement_of) (one_line s ls instance loop (line_of x) w d) o v c →
       map statement_of out2 ≡ with_any (map statement_of out) (option_map statement_of m) →
       body s ls instance loop (map statement_of out2) (drop (i + 1) xs) v c ≡ body s ls instance loop (map statement_of out) (drop i xs) w d
@@ -189,14 +206,14 @@ module _ (s : Scope) (ls : Locals) (instance loop : Bool) where
       ∙ sym (ap (λ ys. body s ls instance loop (map statement_of out) ys w d) (next_of xs i x h g)
       ∙ lines-then s ls instance loop (map statement_of out) x (drop (i + 1) xs) w d (Ok (option_map statement_of m, v, c)) ran)
 
-  lines_broken : (out : List Statement) (xs : List PyStmt) (i : ℕ) (x : PyStmt) (e : Stop) (w v : Work) (d c : Design) →
+  lines_broken : (out : List Statement) (xs : List PyStmt) (i : ℕ) (x : PyStmt) (e : Fault Broken) (w v : Work) (d c : Design) →
       i < length xs → x ≡ get_or xs i x → Runs (option_map statement_of) (one_line s ls instance loop (line_of x) w d) (Err e) v c →
       Runs (map statement_of) (body s ls instance loop out (drop i xs) w d) (Err e) v c
-  lines_broken out xs i x (stop.Broken code line) w v d c h g run =
-      ap (λ ys. body s ls instance loop out ys w d) (next_of xs i x h g) ∙ lines-broken s ls instance loop out x (drop (i + 1) xs) (code, line) w d run
-  lines_broken out xs i x stop.Memory w v d c h g run = tt
+  lines_broken out xs i x (fault.Broken rule) w v d c h g run =
+      ap (λ ys. body s ls instance loop out ys w d) (next_of xs i x h g) ∙ lines-broken s ls instance loop out x (drop (i + 1) xs) rule w d run
+  lines_broken out xs i x fault.Memory w v d c h g run = tt
 
-  pub lines_refused : (out : List Statement) (xs : List PyStmt) (i : ℕ) (x : PyStmt) (o : Result (Option GStmt) Stop) (e : Stop) (w v : Work) (d c : Design) →
+  pub lines_refused : (out : List Statement) (xs : List PyStmt) (i : ℕ) (x : PyStmt) (o : Result (Option GStmt) (Fault Broken)) (e : Fault Broken) (w v : Work) (d c : Design) →
       i < length xs → x ≡ get_or xs i x → o ≡ Err e → Runs (option_map statement_of) (one_line s ls instance loop (line_of x) w d) o v c →
       Runs (map statement_of) (body s ls instance loop out (drop i xs) w d) (Err e) v c
   lines_refused out xs i x o e w v d c h g is run =
@@ -207,7 +224,7 @@ module _ (s : Scope) (ls : Locals) (instance loop : Bool) (l : ℕ) (p : Paths) 
       branches s ls instance loop l p done (drop i xs) w d ≡ Ok (done, w, d)
   branches_end done xs i w d h = ap (λ ys. branches s ls instance loop l p done ys w d) (drop_all i xs h) ∙ branches-end s ls instance loop l p done w d
 
-  pub branches_step : (arms2 arms : List Branch) (after2 after : Paths) (xs : List Choice) (i : ℕ) (x : Choice) (o : Result Branch Stop) (b : Branch) (q : Paths) (w v : Work) (d c : Design) →
+  pub branches_step : (arms2 arms : List Branch) (after2 after : Paths) (xs : List Choice) (i : ℕ) (x : Choice) (o : Result Branch (Fault Broken)) (b : Branch) (q : Paths) (w v : Work) (d c : Design) →
       i < length xs → x ≡ get_or xs i x → o ≡ Ok b → q ≡ p → Runs arm_of (read_choice s ls instance loop l (choice_of x) (goes_on q w) d) o v c →
       arms2 ≡ arms ++ b ∷ [] → after2 ≡ meet after v.here →
       branches s ls instance loop l p (map arm_of arms2, after2) (drop (i + 1) xs) v c ≡ branches s ls instance loop l p (map arm_of arms, after) (drop i xs) w d
@@ -220,14 +237,14 @@ module _ (s : Scope) (ls : Locals) (instance loop : Bool) (l : ℕ) (p : Paths) 
       ∙ sym (ap (λ ys. branches s ls instance loop l p (map arm_of arms, after) ys w d) (next_of xs i x h g)
       ∙ branches-more s ls instance loop l p (map arm_of arms, after) x (drop (i + 1) xs) (arm_of b) w v d c ran)
 
-  branches_broken : (done : Branches) (xs : List Choice) (i : ℕ) (x : Choice) (e : Stop) (w v : Work) (d c : Design) →
+  branches_broken : (done : Branches) (xs : List Choice) (i : ℕ) (x : Choice) (e : Fault Broken) (w v : Work) (d c : Design) →
       i < length xs → x ≡ get_or xs i x → Runs arm_of (read_choice s ls instance loop l (choice_of x) (goes_on p w) d) (Err e) v c →
       Runs branches_of (branches s ls instance loop l p done (drop i xs) w d) (Err e) v c
-  branches_broken done xs i x (stop.Broken code line) w v d c h g run =
-      ap (λ ys. branches s ls instance loop l p done ys w d) (next_of xs i x h g) ∙ branches-broken s ls instance loop l p done x (drop (i + 1) xs) (code, line) w d run
-  branches_broken done xs i x stop.Memory w v d c h g run = tt
+  branches_broken done xs i x (fault.Broken rule) w v d c h g run =
+      ap (λ ys. branches s ls instance loop l p done ys w d) (next_of xs i x h g) ∙ branches-broken s ls instance loop l p done x (drop (i + 1) xs) rule w d run
+  branches_broken done xs i x fault.Memory w v d c h g run = tt
 
-  pub branches_refused : (done : Branches) (xs : List Choice) (i : ℕ) (x : Choice) (o : Result Branch Stop) (e : Stop) (q : Paths) (w v : Work) (d c : Design) →
+  pub branches_refused : (done : Branches) (xs : List Choice) (i : ℕ) (x : Choice) (o : Result Branch (Fault Broken)) (e : Fault Broken) (q : Paths) (w v : Work) (d c : Design) →
       i < length xs → x ≡ get_or xs i x → o ≡ Err e → q ≡ p → Runs arm_of (read_choice s ls instance loop l (choice_of x) (goes_on q w) d) o v c →
       Runs branches_of (branches s ls instance loop l p done (drop i xs) w d) (Err e) v c
   branches_refused done xs i x o e q w v d c h g is from run =

@@ -32,8 +32,8 @@ use Rattle.mh_exprs.specs.declared.locals.Locals.{Locals}
 use Rattle.mh_exprs.specs.declared.names.Callee.{Callee}
 use Rattle.mh_exprs.specs.declared.names.Callee.TheVariants as callee
 use Rattle.mh_exprs.specs.declared.typed.Work.{Work}
-use Rattle.mh_lower.specs.declared.fault.Stop.{Stop}
-use Rattle.mh_lower.specs.declared.fault.Stop.TheVariants as stop
+use Rattle.mh_text.specs.declared.fault.Fault.{Fault}
+use Rattle.mh_text.specs.declared.fault.Fault.TheVariants as fault
 use Rattle.mh_lower.specs.Bodies.{read_lines}
 use Rattle.mh_lower.specs.Body as line
 use Rattle.mh_lower.specs.Body.{Line, Lines, Choice, Choices, End, Then, Where, NoChoice, OrElse, lines, line_of}
@@ -213,7 +213,7 @@ Answers r f (Err (refusal.At code line names)) d = (r ≡ Err (code, line)) × (
 Answers r f (Err refusal.Memory) d = Unit {0}
 
 -- the same before the refusal is made
-abbrev pub ReadsDef : Result (Read × Design) Broken → FuncDef → Result Generator Stop → Design → Type 0
+abbrev pub ReadsDef : Result (Read × Design) Broken → FuncDef → Result Generator (Fault Broken) → Design → Type 0
 ReadsDef r f (Ok g) d = (r ≡ Ok (read_of g, d)) × IsNamed f g
-ReadsDef r f (Err (stop.Broken code line)) d = r ≡ Err (code, line)
-ReadsDef r f (Err stop.Memory) d = Unit {0}
+ReadsDef r f (Err (fault.Broken rule)) d = r ≡ Err rule
+ReadsDef r f (Err fault.Memory) d = Unit {0}

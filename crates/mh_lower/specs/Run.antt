@@ -3,10 +3,8 @@
 use Rattle.std.specs.Prelude.{◌≡◌, ℕ, Result, Ok, Err}
 use Rattle.mh_text.specs.declared.code.Code.{Code}
 use Rattle.mh_design.specs.declared.design.Design.{Design}
-use Rattle.mh_exprs.specs.declared.fault.Fault.{Fault}
-use Rattle.mh_exprs.specs.declared.fault.Fault.TheVariants as fault
-use Rattle.mh_lower.specs.declared.fault.Stop.{Stop}
-use Rattle.mh_lower.specs.declared.fault.Stop.TheVariants as stop
+use Rattle.mh_text.specs.declared.fault.Fault.{Fault}
+use Rattle.mh_text.specs.Faults.{Tells}
 use Rattle.mh_exprs.specs.declared.typed.Work.{Work}
 use Rattle.mh_exprs.specs.Step.{Step}
 
@@ -60,34 +58,23 @@ does l p w d = placed_with l (p w d)
 
 -- ---- what the program gives: this, in the plain form of a tree, unless memory ran out
 
-abbrev pub Tells : {A B : Type 0} → (B → A) → Result A Code → Result B Code → Type 0
-Tells view r (Ok x) = r ≡ Ok (view x)
-Tells view r (Err code) = r ≡ Err code
-
-abbrev pub TellsAny : {A B : Type 0} → (B → A) → Result A Code → Result B Fault → Type 0
-TellsAny view r (Ok x) = r ≡ Ok (view x)
-TellsAny view r (Err (fault.Broken code)) = r ≡ Err code
-TellsAny view r (Err fault.Memory) = Unit {0}
+-- of what takes no memory
+abbrev pub Becomes : {A B : Type 0} → (B → A) → Result A Code → Result B Code → Type 0
+Becomes view r (Ok x) = r ≡ Ok (view x)
+Becomes view r (Err code) = r ≡ Err code
 
 -- with the design after it
-abbrev pub Reads : {A B : Type 0} → (B → A) → Result (A × Design) Code → Result B Fault → Design → Type 0
-Reads view r (Ok x) d = r ≡ Ok (view x, d)
-Reads view r (Err (fault.Broken code)) d = r ≡ Err code
-Reads view r (Err fault.Memory) d = Unit {0}
+abbrev pub Reads : {A B : Type 0} → (B → A) → Result (A × Design) Code → Result B (Fault Code) → Design → Type 0
+Reads view r x d = Tells (λ v. (view v, d)) r x
 
 -- with what is known of the locals after it
 abbrev pub Leaves : {A B : Type 0} → (B → A) → Result (A × Work) Code → Result B Code → Work → Type 0
-Leaves view r (Ok x) w = r ≡ Ok (view x, w)
-Leaves view r (Err code) w = r ≡ Err code
+Leaves view r x w = Becomes (λ v. (view v, w)) r x
 
 -- with both
-abbrev pub Does : {A B : Type 0} → (B → A) → Result ((A × Work) × Design) Code → Result B Fault → Work → Design → Type 0
-Does view r (Ok x) w d = r ≡ Ok ((view x, w), d)
-Does view r (Err (fault.Broken code)) w d = r ≡ Err code
-Does view r (Err fault.Memory) w d = Unit {0}
+abbrev pub Does : {A B : Type 0} → (B → A) → Result ((A × Work) × Design) Code → Result B (Fault Code) → Work → Design → Type 0
+Does view r x w d = Tells (λ v. ((view v, w), d)) r x
 
 -- the same with the line of the statement that breaks the rule
-abbrev pub Runs : {A B : Type 0} → (B → A) → Result (A × Work × Design) Broken → Result B Stop → Work → Design → Type 0
-Runs view r (Ok x) w d = r ≡ Ok (view x, w, d)
-Runs view r (Err (stop.Broken code line)) w d = r ≡ Err (code, line)
-Runs view r (Err stop.Memory) w d = Unit {0}
+abbrev pub Runs : {A B : Type 0} → (B → A) → Result (A × Work × Design) Broken → Result B (Fault Broken) → Work → Design → Type 0
+Runs view r x w d = Tells (λ v. (view v, w, d)) r x

@@ -1,25 +1,26 @@
 // What `v = e` gives a local.
 ghost use Rattle.std.specs.Prelude.{false, ◌≡◌, ◌≤◌, ◌-◌, ◌^◌, ◌&&◌, is_some, map, pos};
+ghost use Rattle.mh_text.specs.Faults.{Gives};
 ghost use Rattle.mh_consts.specs.Expression.{ex_of, given_of, keys_of, maker, one, part_of, parts_of, slice_from, three};
 ghost use Rattle.mh_consts.specs.Numbers.{bounds_of, content as content_of};
 ghost use Rattle.mh_exprs.specs.Calls as calls;
 ghost use Rattle.mh_exprs.specs.Expression.{read as reading};
 ghost use Rattle.mh_lower.specs.Views.{view, Called};
 ghost use Rattle.mh_lower.specs.Bindings as spec;
-ghost use Rattle.mh_exprs.specs.Step.{Changes, Gives, Grows};
+ghost use Rattle.mh_exprs.specs.Step.{Changes, Grows};
 
 use crate::given::{given_number, part_given};
 use crate::paths::assigns;
 use crate::typed::Bound;
-use mh_consts::{Builtin, Const, Scope};
+use mh_consts::{Builtin, Const, Scope, is_method};
 use mh_design::{Binding, Design, GExpr, Kind, ValueKind, binding_takes, is_number};
 use mh_exprs::{
-    Callee, Fault, Form, Locals, Typed, Work, callee_of, folds, form_of, integer, is_attribute,
-    is_maker, is_named_call, kind_at, known, leaf, read,
+    Callee, Form, Locals, Typed, Work, callee_of, folds, form_of, integer, is_maker, is_named_call,
+    kind_at, known, leaf, read,
 };
 use mh_num::Bounds;
 use mh_pytree::{Argument, PyExpr};
-use mh_text::Code;
+use mh_text::{Code, Fault};
 use sqlite_items::Boxed;
 use std::alloc::Global;
 
@@ -69,7 +70,7 @@ pub(crate) fn constant_number(
     s: &Scope,
     locals: &Locals,
     e: &PyExpr,
-) -> Result<i128, Fault>
+) -> Result<i128, Fault<Code>>
     ensures { Gives (spec.constant_number s.now locals.now (ex_of e.now)) result }
 {
     if !folds(alloc, s, locals, e)? {
@@ -158,7 +159,7 @@ fn any_right(
     w: &Work,
     e: &PyExpr,
     d: &mut Design,
-) -> Result<Bound, Fault>
+) -> Result<Bound, Fault<Code>>
     ensures { Grows (spec.any_right s.now locals.now w.now (ex_of e.now) d.old) result d.new }
 {
     let t = read(alloc, s, locals, w, false, e, d)?;
@@ -176,7 +177,7 @@ fn made_between(
     low: &Argument,
     high: &Argument,
     d: &mut Design,
-) -> Result<Bound, Fault>
+) -> Result<Bound, Fault<Code>>
     ensures { Grows (spec.made_between s.now locals.now wraps (reading s.now locals.now w.now false (part_of (given_of v.now))) (part_of (given_of low.now)) (part_of (given_of high.now)) d.old) result d.new }
 {
     let t = part_given(alloc, s, locals, w, v, d)?;
@@ -196,7 +197,7 @@ fn made_between_turned(
     high: &Argument,
     low: &Argument,
     d: &mut Design,
-) -> Result<Bound, Fault>
+) -> Result<Bound, Fault<Code>>
     ensures { Grows (spec.made_between_turned s.now locals.now wraps (reading s.now locals.now w.now false (part_of (given_of v.now))) (part_of (given_of high.now)) (part_of (given_of low.now)) d.old) result d.new }
 {
     let t = part_given(alloc, s, locals, w, v, d)?;
@@ -218,7 +219,7 @@ fn made_of_three(
     second: &Argument,
     third: &Argument,
     d: &mut Design,
-) -> Result<Bound, Fault>
+) -> Result<Bound, Fault<Code>>
     ensures { Grows (spec.made_right s.now locals.now w.now wraps form (ex_of e.now) (three (part_of (given_of first.now)) (part_of (given_of second.now)) (part_of (given_of third.now))) d.old) result d.new }
 {
     match form {
@@ -239,7 +240,7 @@ fn made_right(
     e: &PyExpr,
     arguments: &[Argument],
     d: &mut Design,
-) -> Result<Bound, Fault>
+) -> Result<Bound, Fault<Code>>
     ensures { Grows (spec.made_right s.now locals.now w.now wraps (calls.form_of (keys_of (map given_of arguments.now))) (ex_of e.now) (parts_of (map given_of arguments.now)) d.old) result d.new }
 {
     match arguments {
@@ -264,7 +265,7 @@ fn made_low_bits(
     v: &Argument,
     n: &PyExpr,
     d: &mut Design,
-) -> Result<Bound, Fault>
+) -> Result<Bound, Fault<Code>>
     ensures { Grows (spec.made_low_bits s.now locals.now wraps (reading s.now locals.now w.now false (part_of (given_of v.now))) (ex_of n.now) d.old) result d.new }
 {
     let t = part_given(alloc, s, locals, w, v, d)?;
@@ -283,7 +284,7 @@ fn resized_one(
     v: &Argument,
     n: &PyExpr,
     d: &mut Design,
-) -> Result<Bound, Fault>
+) -> Result<Bound, Fault<Code>>
     ensures { Grows (spec.resized_right s.now locals.now w.now wraps form (one (part_of (given_of v.now))) (ex_of n.now) d.old) result d.new }
 {
     match form {
@@ -303,7 +304,7 @@ fn resized_right(
     arguments: &[Argument],
     n: &PyExpr,
     d: &mut Design,
-) -> Result<Bound, Fault>
+) -> Result<Bound, Fault<Code>>
     ensures { Grows (spec.resized_right s.now locals.now w.now wraps (calls.form_of (keys_of (map given_of arguments.now))) (parts_of (map given_of arguments.now)) (ex_of n.now) d.old) result d.new }
 {
     match arguments {
@@ -327,7 +328,7 @@ fn sliced_right(
     arguments: &[Argument],
     n: &PyExpr,
     d: &mut Design,
-) -> Result<Bound, Fault>
+) -> Result<Bound, Fault<Code>>
     ensures { Grows (spec.resized_view s.now locals.now w.now (ex_of e.now) (Called (keys_of (map given_of arguments.now)) (ex_of f.now) (parts_of (map given_of arguments.now))) (ex_of n.now) d.old) result d.new }
 {
     let c = callee_of(s, locals, f);
@@ -348,7 +349,7 @@ fn called_right(
     f: &PyExpr,
     arguments: &[Argument],
     d: &mut Design,
-) -> Result<Bound, Fault>
+) -> Result<Bound, Fault<Code>>
     ensures { Grows (spec.call_view s.now locals.now w.now (ex_of e.now) (Called (keys_of (map given_of arguments.now)) (ex_of f.now) (parts_of (map given_of arguments.now))) d.old) result d.new }
 {
     let c = callee_of(s, locals, f);
@@ -370,13 +371,13 @@ fn base_right(
     a: &PyExpr,
     n: &PyExpr,
     d: &mut Design,
-) -> Result<Bound, Fault>
+) -> Result<Bound, Fault<Code>>
     ensures { Grows (spec.resized_view s.now locals.now w.now (ex_of e.now) (view (ex_of a.now)) (ex_of n.now) d.old) result d.new }
 {
     match a {
         PyExpr::Group(inner) => base_right(alloc, s, locals, w, e, inner.get(), n, d),
         PyExpr::Call(f, arguments) => {
-            if is_attribute(f.get()) {
+            if is_method(f.get()) {
                 any_right(alloc, s, locals, w, e, d)
             } else {
                 sliced_right(alloc, s, locals, w, e, f.get(), arguments.as_slice(), n, d)
@@ -387,12 +388,12 @@ fn base_right(
         | PyExpr::Str(_)
         | PyExpr::True
         | PyExpr::False
-        | PyExpr::None
-        | PyExpr::Bracketed(_)
+        | PyExpr::None => any_right(alloc, s, locals, w, e, d),
+        PyExpr::Bracketed(_)
         | PyExpr::Tuple(_)
         | PyExpr::List(_)
-        | PyExpr::Comprehension(_, _, _)
-        | PyExpr::Not(_)
+        | PyExpr::Comprehension(_, _, _) => any_right(alloc, s, locals, w, e, d),
+        PyExpr::Not(_)
         | PyExpr::Unary(_, _)
         | PyExpr::Binary(_, _, _)
         | PyExpr::Attribute(_, _)
@@ -413,7 +414,7 @@ fn range_right(
     a: &PyExpr,
     n: &PyExpr,
     d: &mut Design,
-) -> Result<Bound, Fault>
+) -> Result<Bound, Fault<Code>>
     ensures { Grows (spec.call_view s.now locals.now w.now (ex_of e.now) (view (slice_from (maker (ex_of a.now)) (ex_of a.now) (ex_of n.now))) d.old) result d.new }
 {
     if is_named_call(a) {
@@ -434,13 +435,13 @@ fn call_right(
     e: &PyExpr,
     inner: &PyExpr,
     d: &mut Design,
-) -> Result<Bound, Fault>
+) -> Result<Bound, Fault<Code>>
     ensures { Grows (spec.call_view s.now locals.now w.now (ex_of e.now) (view (ex_of inner.now)) d.old) result d.new }
 {
     match inner {
         PyExpr::Group(a) => call_right(alloc, s, locals, w, e, a.get(), d),
         PyExpr::Call(f, arguments) => {
-            if is_attribute(f.get()) {
+            if is_method(f.get()) {
                 any_right(alloc, s, locals, w, e, d)
             } else {
                 called_right(alloc, s, locals, w, e, f.get(), arguments.as_slice(), d)
@@ -476,7 +477,7 @@ fn is_made_call(s: &Scope, locals: &Locals, e: &PyExpr) -> bool
 {
     match e {
         PyExpr::Group(a) => is_made_call(s, locals, a.get()),
-        PyExpr::Call(f, _) => !is_attribute(f.get()) && is_maker(callee_of(s, locals, f.get())),
+        PyExpr::Call(f, _) => !is_method(f.get()) && is_maker(callee_of(s, locals, f.get())),
         PyExpr::Name(_)
         | PyExpr::Number(_)
         | PyExpr::Str(_)
@@ -536,7 +537,7 @@ fn is_made(s: &Scope, locals: &Locals, e: &PyExpr) -> bool
 }
 
 /// The one constant that a right side is.
-fn folded_right(alloc: Global, s: &Scope, e: &PyExpr, d: &mut Design) -> Result<Bound, Fault>
+fn folded_right(alloc: Global, s: &Scope, e: &PyExpr, d: &mut Design) -> Result<Bound, Fault<Code>>
     ensures { Grows (spec.folded_right s.now (ex_of e.now) d.old) result d.new }
 {
     let v = known(alloc, e, s)?;
@@ -551,7 +552,7 @@ pub(crate) fn right(
     w: &Work,
     e: &PyExpr,
     d: &mut Design,
-) -> Result<Bound, Fault>
+) -> Result<Bound, Fault<Code>>
     ensures { Grows (spec.right s.now locals.now w.now (ex_of e.now) d.old) result d.new }
 {
     if !is_made(s, locals, e) {

@@ -16,15 +16,14 @@ ghost use Rattle.mh_lower.specs.Statements as statement;
 ghost use Rattle.mh_exprs.specs.Step.{Changes, Grows, just};
 
 use crate::bindings::set_kind;
-use crate::fault::Stop;
 use crate::paths::{breaks, continues, copy, enters, leaves, leaves_turns, meet, turn};
 use crate::statements::{assign, augment, by_itself, claim, condition, ends, is_stop_call, yields};
 use crate::typed::Ends;
 use mh_consts::Scope;
 use mh_design::{Branch, Design, GStmt, Kind, constant_of, ends_give_turn, is_int_kind};
-use mh_exprs::{Fault, Locals, Typed, Work, kind_at};
+use mh_exprs::{Locals, Typed, Work, kind_at};
 use mh_pytree::{Branch as Choice, Operator, PyExpr, PyStmt};
-use mh_text::{Code, Memory, Text};
+use mh_text::{Code, CodeAt, Fault, Memory, Text};
 use sqlite_items::{Boxed, Items};
 use std::alloc::Global;
 
@@ -33,8 +32,8 @@ macro_rules! placed {
     ($line:expr, $read:expr) => {
         match $read {
             Ok(x) => x,
-            Err(Fault::Broken(code)) => return Err(Stop::Broken(code, $line)),
-            Err(Fault::Memory) => return Err(Stop::Memory),
+            Err(Fault::Broken(code)) => return Err(Fault::Broken((code, $line))),
+            Err(Fault::Memory) => return Err(Fault::Memory),
         }
     };
 }
@@ -70,7 +69,7 @@ fn goes_over(
     w: &Work,
     over: &PyExpr,
     d: &mut Design,
-) -> Result<Boxed<Ends>, Fault>
+) -> Result<Boxed<Ends>, Fault<Code>>
     ensures { Grows (statement.ends s.now locals.now w.now (ex_of over.now) d.old) result d.new }
 {
     Ok(Boxed::new(alloc, ends(alloc, s, locals, w, over, d)?)?)
@@ -86,7 +85,7 @@ fn begins(
     t: &Text,
     over: &PyExpr,
     d: &mut Design,
-) -> Result<(u32, Boxed<Ends>), Fault>
+) -> Result<(u32, Boxed<Ends>), Fault<Code>>
     ensures { Does (λ x. x) (spec.begins s.now locals.now (lookup locals.now.numbers t.now) (ex_of over.now) w.old d.old) result w.new d.new }
 {
     match locals.numbers.find(t) {
@@ -109,7 +108,7 @@ fn begins_at(
     over: &PyExpr,
     w: &mut Work,
     d: &mut Design,
-) -> Result<(u32, Boxed<Ends>), Stop>
+) -> Result<(u32, Boxed<Ends>), Fault<CodeAt>>
     ensures { Runs (λ x. x) (placed_with line (spec.begins s.now locals.now (lookup locals.now.numbers t.now) (ex_of over.now) w.old d.old)) result w.new d.new }
 {
     Ok(placed!(line, begins(alloc, s, locals, w, t, over, d)))
@@ -124,7 +123,7 @@ fn test_at(
     e: &PyExpr,
     w: &Work,
     d: &mut Design,
-) -> Result<Boxed<Typed>, Stop>
+) -> Result<Boxed<Typed>, Fault<CodeAt>>
     ensures { Runs (λ t. t) (placed line w.now (statement.condition s.now locals.now w.now (ex_of e.now) d.old)) result w.now d.new }
 {
     let t = placed!(line, condition(alloc, s, locals, w, e, d));
@@ -140,7 +139,7 @@ fn value_line(
     e: &PyExpr,
     w: &Work,
     d: &mut Design,
-) -> Result<Option<GStmt>, Stop>
+) -> Result<Option<GStmt>, Fault<CodeAt>>
     ensures { Runs (option_map statement_of) (placed line w.now (statement.by_itself s.now locals.now w.now line (ex_of e.now) d.old)) result w.now d.new }
 {
     Ok(placed!(line, by_itself(alloc, s, locals, w, line, e, d)))
@@ -156,7 +155,7 @@ fn assign_line(
     e: &PyExpr,
     w: &mut Work,
     d: &mut Design,
-) -> Result<Option<GStmt>, Stop>
+) -> Result<Option<GStmt>, Fault<CodeAt>>
     ensures { Runs (option_map statement_of) (spec.some (placed_with line (statement.assign s.now locals.now w.old line (ex_of target.now) (ex_of e.now) d.old))) result w.new d.new }
 {
     Ok(Some(placed!(line, assign(alloc, s, locals, w, line, target, e, d))))
@@ -173,18 +172,23 @@ fn augment_line(
     e: &PyExpr,
     w: &mut Work,
     d: &mut Design,
-) -> Result<Option<GStmt>, Stop>
+) -> Result<Option<GStmt>, Fault<CodeAt>>
     ensures { Runs (option_map statement_of) (spec.some (placed_with line (statement.augment s.now locals.now w.old line op (ex_of target.now) (ex_of e.now) d.old))) result w.new d.new }
 {
     Ok(Some(placed!(line, augment(alloc, s, locals, w, line, op, target, e, d))))
 }
 
 /// `break`
-fn break_line(alloc: Global, in_loop: bool, line: u32, w: &mut Work) -> Result<Option<GStmt>, Stop>
+fn break_line(
+    alloc: Global,
+    in_loop: bool,
+    line: u32,
+    w: &mut Work,
+) -> Result<Option<GStmt>, Fault<CodeAt>>
     ensures { (c : AnyDesign) → Runs (option_map statement_of) (spec.leave in_loop line (tree.Break line) ways.breaks w.old c) result w.new c }
 {
     if !in_loop {
-        return Err(Stop::Broken(Code::E2NotElaborable, line));
+        return Err(Fault::Broken((Code::E2NotElaborable, line)));
     }
     breaks(alloc, w)?;
     Ok(Some(GStmt::Break { line }))
@@ -196,11 +200,11 @@ fn continue_line(
     in_loop: bool,
     line: u32,
     w: &mut Work,
-) -> Result<Option<GStmt>, Stop>
+) -> Result<Option<GStmt>, Fault<CodeAt>>
     ensures { (c : AnyDesign) → Runs (option_map statement_of) (spec.leave in_loop line (tree.Continue line) ways.continues w.old c) result w.new c }
 {
     if !in_loop {
-        return Err(Stop::Broken(Code::E2NotElaborable, line));
+        return Err(Fault::Broken((Code::E2NotElaborable, line)));
     }
     continues(alloc, w)?;
     Ok(Some(GStmt::Continue { line }))
@@ -213,11 +217,11 @@ fn raise_line(
     line: u32,
     e: &PyExpr,
     w: &mut Work,
-) -> Result<Option<GStmt>, Stop>
+) -> Result<Option<GStmt>, Fault<CodeAt>>
     ensures { (c : AnyDesign) → Runs (option_map statement_of) (spec.leave (statement.is_stop_call s.now locals.now (ex_of e.now)) line (tree.Stop line) ways.stops w.old c) result w.new c }
 {
     if !is_stop_call(s, locals, e) {
-        return Err(Stop::Broken(Code::E2NotElaborable, line));
+        return Err(Fault::Broken((Code::E2NotElaborable, line)));
     }
     w.here = None;
     Ok(Some(GStmt::Stop { line }))
@@ -231,7 +235,7 @@ fn yield_line(
     instance: bool,
     line: u32,
     e: &PyExpr,
-) -> Result<Option<GStmt>, Stop>
+) -> Result<Option<GStmt>, Fault<CodeAt>>
     ensures { (u : AnyWork) (c : AnyDesign) → Runs (option_map statement_of) (spec.some (placed line u (just (statement.yields s.now locals.now instance line (ex_of e.now)) c))) result u c }
 {
     Ok(Some(placed!(line, yields(alloc, s, locals, instance, line, e))))
@@ -246,7 +250,7 @@ fn assert_line(
     e: &PyExpr,
     w: &Work,
     d: &mut Design,
-) -> Result<Option<GStmt>, Stop>
+) -> Result<Option<GStmt>, Fault<CodeAt>>
     ensures { Runs (option_map statement_of) (spec.some (placed line w.now (statement.claim s.now locals.now w.now line (ex_of e.now) d.old))) result w.now d.new }
 {
     Ok(Some(placed!(line, claim(alloc, s, locals, w, line, e, d))))
@@ -264,7 +268,7 @@ fn read_line(
     x: &PyStmt,
     w: &mut Work,
     d: &mut Design,
-) -> Result<Option<GStmt>, Stop>
+) -> Result<Option<GStmt>, Fault<CodeAt>>
     ensures { Runs (option_map statement_of) (spec.read_line s.now locals.now instance in_loop (line_of x.now) w.old d.old) result w.new d.new }
 {
     match x {
@@ -293,10 +297,10 @@ fn read_line(
             let again = body.as_slice();
             read_while(alloc, s, locals, instance, *l, e, again, w, d)
         }
-        PyStmt::Return(l, _) => Err(Stop::Broken(Code::E2NotElaborable, *l)),
-        PyStmt::ImportAll(l) => Err(Stop::Broken(Code::E2NotElaborable, *l)),
-        PyStmt::Import(l, _) => Err(Stop::Broken(Code::E2NotElaborable, *l)),
-        PyStmt::Def(f) => Err(Stop::Broken(Code::E2NotElaborable, f.line)),
+        PyStmt::Return(l, _) => Err(Fault::Broken((Code::E2NotElaborable, *l))),
+        PyStmt::ImportAll(l) => Err(Fault::Broken((Code::E2NotElaborable, *l))),
+        PyStmt::Import(l, _) => Err(Fault::Broken((Code::E2NotElaborable, *l))),
+        PyStmt::Def(f) => Err(Fault::Broken((Code::E2NotElaborable, f.line))),
     }
 }
 
@@ -322,7 +326,7 @@ pub(crate) fn read_lines(
     xs: &[PyStmt],
     w: &mut Work,
     d: &mut Design,
-) -> Result<Items<GStmt>, Stop>
+) -> Result<Items<GStmt>, Fault<CodeAt>>
     ensures { Runs (map statement_of) (spec.read_lines s.now locals.now instance in_loop [] (lines (map line_of xs.now)) w.old d.old) result w.new d.new }
 {
     let mut out = Items::new(alloc);
@@ -346,7 +350,7 @@ fn read_while(
     body: &[PyStmt],
     w: &mut Work,
     d: &mut Design,
-) -> Result<Option<GStmt>, Stop>
+) -> Result<Option<GStmt>, Fault<CodeAt>>
     ensures { Runs (option_map statement_of) (spec.some (spec.while_line s.now locals.now line (ex_of e.now) (spec.read_lines s.now locals.now instance true [] (lines (map line_of body.now))) w.old d.old)) result w.new d.new }
 {
     let t = test_at(alloc, s, locals, line, e, w, d)?;
@@ -376,7 +380,7 @@ fn read_for(
     body: &[PyStmt],
     w: &mut Work,
     d: &mut Design,
-) -> Result<Option<GStmt>, Stop>
+) -> Result<Option<GStmt>, Fault<CodeAt>>
     ensures { Runs (option_map statement_of) (spec.some (spec.for_line s.now locals.now line (lookup locals.now.numbers t.now) (ex_of over.now) (spec.read_lines s.now locals.now instance true [] (lines (map line_of body.now))) w.old d.old)) result w.new d.new }
 {
     let (v, x) = begins_at(alloc, s, locals, line, t, over, w, d)?;
@@ -411,7 +415,7 @@ fn read_branch(
     choice: &Choice,
     w: &mut Work,
     d: &mut Design,
-) -> Result<Branch, Stop>
+) -> Result<Branch, Fault<CodeAt>>
     ensures { Runs arm_of (spec.read_choice s.now locals.now instance in_loop line (choice_of choice.now) w.old d.old) result w.new d.new }
 {
     let t = test_at(alloc, s, locals, line, &choice.test, w, d)?;
@@ -437,7 +441,7 @@ fn read_branches(
     before: &Option<Items<bool>>,
     w: &mut Work,
     d: &mut Design,
-) -> Result<(Items<Branch>, Option<Items<bool>>), Stop>
+) -> Result<(Items<Branch>, Option<Items<bool>>), Fault<CodeAt>>
     ensures { Runs spec.branches_of (spec.read_choices s.now locals.now instance in_loop line before.now ([], None) (spec_choices (map choice_of choices.now)) w.old d.old) result w.new d.new }
 {
     let mut branches = Items::new(alloc);
@@ -463,7 +467,7 @@ fn read_other(
     other: &Option<Items<PyStmt>>,
     w: &mut Work,
     d: &mut Design,
-) -> Result<Items<GStmt>, Stop>
+) -> Result<Items<GStmt>, Fault<CodeAt>>
     ensures { Runs (map statement_of) (spec.read_lines s.now locals.now instance in_loop [] (lines_if_any (option_map (map line_of) other.now)) w.old d.old) result w.new d.new }
 {
     match other {
@@ -486,7 +490,7 @@ fn read_if(
     other: &Option<Items<PyStmt>>,
     w: &mut Work,
     d: &mut Design,
-) -> Result<Option<GStmt>, Stop>
+) -> Result<Option<GStmt>, Fault<CodeAt>>
     ensures { Runs (option_map statement_of) (spec.some (spec.if_line line (λ p. spec.read_choices s.now locals.now instance in_loop line p ([], None) (spec_choices (map choice_of choices.now))) (spec.read_lines s.now locals.now instance in_loop [] (lines_if_any (option_map (map line_of) other.now))) w.old d.old)) result w.new d.new }
 {
     let before = copy(alloc, &w.here)?;

@@ -1,26 +1,22 @@
 // How the definition of a generator is read.
 ghost use Rattle.std.specs.Prelude.{◌≡◌, [], length, map, IfOk};
+ghost use Rattle.mh_text.specs.Faults.{Gives};
 ghost use Rattle.mh_consts.specs.Expression.{ex_of, given_of, key_of, keys_of, part_of, parts_of};
 ghost use Rattle.mh_pytree.specs.declared.statement.FuncDef.{out-FuncDef};
 ghost use Rattle.mh_lower.specs.Body.{line_of, lines};
 ghost use Rattle.mh_consts.specs.declared.kinds.Const.{out-Const};
 ghost use Rattle.mh_lower.specs.Generators as spec;
 ghost use Rattle.mh_lower.specs.Generators.{Answers, ReadsDef, def_of};
-ghost use Rattle.mh_exprs.specs.Step.{Gives};
 
 use crate::bodies::read_lines;
-use crate::fault::Stop;
 use crate::names::{collect_all, no_locals};
 use crate::paths::starts;
 use crate::waits::{arguments_wait_for, wait_given};
-use mh_consts::{Builtin, Const, Scope, is_plain};
+use mh_consts::{Builtin, Const, Scope, all_positional, is_method, is_plain};
 use mh_design::{Design, GStmt, GenKind, Generator, Kind, Local, Wait, is_edge, is_reset};
-use mh_exprs::{
-    Callee, Fault, Locals, Work, all_positional, callee_named, callee_of, is_attribute, is_word,
-    known,
-};
+use mh_exprs::{Callee, Locals, Work, callee_named, callee_of, is_word, known};
 use mh_pytree::{Argument, FuncDef, Param, PyExpr};
-use mh_text::{Code, Memory, Refusal, Text};
+use mh_text::{Code, CodeAt, Fault, Memory, Refusal, Text};
 use sqlite_items::Items;
 use std::alloc::Global;
 
@@ -53,7 +49,7 @@ fn always(
     s: &Scope,
     locals: &Locals,
     arguments: &[Argument],
-) -> Result<GenKind, Fault>
+) -> Result<GenKind, Fault<Code>>
     ensures { Gives (spec.always s.now locals.now (keys_of (map given_of arguments.now)) (parts_of (map given_of arguments.now))) result }
 {
     let waits = arguments_wait_for(alloc, s, locals, arguments)?;
@@ -101,7 +97,7 @@ fn with_reset(
     w: Wait,
     reset: &Argument,
     d: &Design,
-) -> Result<GenKind, Fault>
+) -> Result<GenKind, Fault<Code>>
     ensures { Gives (spec.with_reset s.now d.now w (part_of (given_of reset.now))) result }
 {
     if !is_plain(&reset.value, s) {
@@ -131,7 +127,7 @@ fn always_seq(
     locals: &Locals,
     arguments: &[Argument],
     d: &Design,
-) -> Result<GenKind, Fault>
+) -> Result<GenKind, Fault<Code>>
     ensures { Gives (spec.always_seq s.now locals.now d.now (spec.is_reset_key (keys_of (map given_of arguments.now))) (parts_of (map given_of arguments.now))) result }
 {
     match arguments {
@@ -154,7 +150,7 @@ fn by_call(
     c: Callee,
     arguments: &[Argument],
     d: &Design,
-) -> Result<GenKind, Fault>
+) -> Result<GenKind, Fault<Code>>
     ensures { Gives (spec.by_call s.now locals.now d.now c (keys_of (map given_of arguments.now)) (parts_of (map given_of arguments.now))) result }
 {
     match c {
@@ -167,14 +163,20 @@ fn by_call(
 
 /// What a decorator says.
 #[tactic(auto, using(crate::proofs::ViewForms::views))]
-fn mark(alloc: Global, s: &Scope, locals: &Locals, e: &PyExpr, d: &Design) -> Result<GenKind, Fault>
+fn mark(
+    alloc: Global,
+    s: &Scope,
+    locals: &Locals,
+    e: &PyExpr,
+    d: &Design,
+) -> Result<GenKind, Fault<Code>>
     ensures { Gives (spec.mark s.now locals.now d.now (ex_of e.now)) result }
 {
     match e {
         PyExpr::Group(a) => mark(alloc, s, locals, a.get(), d),
         PyExpr::Name(t) => Ok(by_name(callee_named(s, locals, t))?),
         PyExpr::Call(f, arguments) => {
-            if is_attribute(f.get()) {
+            if is_method(f.get()) {
                 return Err(Fault::Broken(Code::E2NotElaborable));
             }
             let c = callee_of(s, locals, f.get());
@@ -207,7 +209,7 @@ fn marked(
     marks: &[PyExpr],
     params: &[Param],
     d: &Design,
-) -> Result<GenKind, Fault>
+) -> Result<GenKind, Fault<Code>>
     ensures { Gives (spec.marked s.now locals.now d.now (map ex_of marks.now) (length params.now)) result }
 {
     match (marks, params) {
@@ -285,7 +287,7 @@ fn read_body(
     s: &Scope,
     kind: GenKind,
     d: &mut Design,
-) -> Result<Generator, Stop>
+) -> Result<Generator, Fault<CodeAt>>
     ensures { ReadsDef (spec.read_body s.now d.old kind (lines (map line_of (out-FuncDef f.now).body)) (spec.locals_in_lines spec.no_locals (lines (map line_of (out-FuncDef f.now).body)))) f.now result d.new }
 {
     let mut locals = no_locals(alloc);
@@ -306,14 +308,19 @@ fn read_body(
 }
 
 /// The definition of a generator.
-fn read_def(alloc: Global, f: &FuncDef, s: &Scope, d: &mut Design) -> Result<Generator, Stop>
+fn read_def(
+    alloc: Global,
+    f: &FuncDef,
+    s: &Scope,
+    d: &mut Design,
+) -> Result<Generator, Fault<CodeAt>>
     ensures { ReadsDef (def_of s.now d.old f.now) f.now result d.new }
 {
     let none = no_locals(alloc);
     match marked(alloc, s, &none, f.marks.as_slice(), f.params.as_slice(), d) {
         Ok(kind) => read_body(alloc, f, s, kind, d),
-        Err(Fault::Broken(code)) => Err(Stop::Broken(code, f.line)),
-        Err(Fault::Memory) => Err(Stop::Memory),
+        Err(Fault::Broken(code)) => Err(Fault::Broken((code, f.line))),
+        Err(Fault::Memory) => Err(Fault::Memory),
     }
 }
 
@@ -325,11 +332,11 @@ pub fn lower(alloc: Global, f: &FuncDef, s: &Scope, d: &mut Design) -> Result<Ge
 {
     match read_def(alloc, f, s, d) {
         Ok(g) => Ok(g),
-        Err(Stop::Broken(code, line)) => Err(Refusal::At {
+        Err(Fault::Broken((code, line))) => Err(Refusal::At {
             code,
             line,
             names: Items::new(alloc),
         }),
-        Err(Stop::Memory) => Err(Refusal::Memory),
+        Err(Fault::Memory) => Err(Refusal::Memory),
     }
 }

@@ -1,15 +1,17 @@
 // The arguments of calls.
 ghost use Rattle.std.specs.Prelude.{false};
+ghost use Rattle.mh_text.specs.Faults.{Gives};
 ghost use Rattle.mh_consts.specs.Expression.{given_of, part_of};
 ghost use Rattle.mh_exprs.specs.Expression.{read as reading};
 ghost use Rattle.mh_lower.specs.Bindings.{constant_number as number_of};
-ghost use Rattle.mh_exprs.specs.Step.{Gives, Grows};
+ghost use Rattle.mh_exprs.specs.Step.{Grows};
 
 use crate::bindings::constant_number;
 use mh_consts::Scope;
 use mh_design::Design;
-use mh_exprs::{Fault, Locals, Typed, Work, part};
+use mh_exprs::{Locals, Typed, Work, part};
 use mh_pytree::Argument;
+use mh_text::{Code, Fault};
 use sqlite_items::Boxed;
 use std::alloc::Global;
 
@@ -22,7 +24,7 @@ pub(crate) fn part_given(
     w: &Work,
     a: &Argument,
     d: &mut Design,
-) -> Result<Boxed<Typed>, Fault>
+) -> Result<Boxed<Typed>, Fault<Code>>
     ensures { Grows (reading s.now locals.now w.now false (part_of (given_of a.now)) d.old) result d.new }
 {
     part(alloc, s, locals, w, false, &a.value, d)
@@ -35,7 +37,7 @@ pub(crate) fn given_number(
     s: &Scope,
     locals: &Locals,
     a: &Argument,
-) -> Result<i128, Fault>
+) -> Result<i128, Fault<Code>>
     ensures { Gives (number_of s.now locals.now (part_of (given_of a.now))) result }
 {
     constant_number(alloc, s, locals, &a.value)

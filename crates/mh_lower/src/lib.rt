@@ -6,7 +6,6 @@
 
 mod bindings;
 mod bodies;
-mod fault;
 mod generators;
 mod given;
 mod names;
@@ -16,7 +15,6 @@ mod targets;
 mod typed;
 mod waits;
 
-pub use fault::Stop;
 pub use generators::lower;
 pub use names::{collect_all, no_locals};
 pub use typed::{Bound, Ends, Left};

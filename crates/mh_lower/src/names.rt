@@ -7,8 +7,8 @@ ghost use Rattle.mh_lower.specs.Body.{line_of, lines, lines_if_any, choice_of};
 ghost use Rattle.mh_lower.specs.Body.{choices as spec_choices};
 ghost use Rattle.mh_lower.specs.Generators as spec;
 
-use mh_consts::Names;
-use mh_exprs::{Locals, name_in};
+use mh_consts::{Names, name_in};
+use mh_exprs::Locals;
 use mh_pytree::{Branch as Choice, PyExpr, PyStmt};
 use mh_text::{Memory, Text};
 use sqlite_items::Items;

@@ -1,5 +1,6 @@
 // The statements of a generator that hold no others.
 ghost use Rattle.std.specs.Prelude.{false, ◌≡◌, [], map, option_copied, Some};
+ghost use Rattle.mh_text.specs.Faults.{Tells};
 ghost use Rattle.mh_consts.specs.declared.kinds.Const.{out-Const};
 ghost use Rattle.mh_consts.specs.Expression.{ex_of, given_of, keys_of, part_of, parts_of};
 ghost use Rattle.mh_consts.specs.Names.{lookup};
@@ -8,7 +9,7 @@ ghost use Rattle.mh_exprs.specs.Leaves.{kind_at as kind_of_local};
 ghost use Rattle.mh_lower.specs.Statements as spec;
 ghost use Rattle.mh_lower.specs.Views.{Called, view};
 ghost use Rattle.mh_lower.specs.Bindings.{constant_number};
-ghost use Rattle.mh_lower.specs.Run.{Does, Leaves, Reads, Tells, TellsAny};
+ghost use Rattle.mh_lower.specs.Run.{Does, Leaves, Reads, Becomes};
 ghost use Rattle.mh_exprs.specs.Step.{Grows};
 ghost use Rattle.mh_design.specs.Tree.{statement_of};
 ghost use Rattle.std.specs.Option.{option_map};
@@ -18,23 +19,22 @@ use crate::given::{given_number, part_given};
 use crate::targets::{left, left_takes};
 use crate::typed::{Bound, Ends, Left};
 use crate::waits::yielded;
-use mh_consts::{Builtin, Const, Scope};
+use mh_consts::{Builtin, Const, Scope, all_positional, is_method, name_in};
 use mh_design::{
     Design, GExpr, GStmt, Kind, Place, PrintPart, Target, ValueKind, is_number, takes,
 };
 use mh_exprs::{
-    Callee, Fault, Locals, Typed, Work, all_positional, callee_of, integer, is_attribute, kind_at,
-    local, name_in, operated, outside, part,
+    Callee, Locals, Typed, Work, callee_of, integer, kind_at, local, operated, outside, part,
 };
 use mh_pytree::{Argument, Operator, PyExpr};
-use mh_text::{Code, Text};
+use mh_text::{Code, Fault, Text};
 use sqlite_items::{Boxed, Items};
 use std::alloc::Global;
 
 /// An assignment to this left side.
 #[tactic(auto, using(mh_design::proofs::Shapes::statements))]
 fn set(line: u32, t: Boxed<Typed>, place: Boxed<Left>) -> Result<GStmt, Code>
-    ensures { Tells statement_of (spec.set line t place) result }
+    ensures { Becomes statement_of (spec.set line t place) result }
 {
     if left_takes(place.get().kind, t.get().kind) {
         Ok(GStmt::Set {
@@ -70,7 +70,7 @@ fn assign_local(
     v: u32,
     e: &PyExpr,
     d: &mut Design,
-) -> Result<GStmt, Fault>
+) -> Result<GStmt, Fault<Code>>
     ensures { Does statement_of (spec.assign_name s.now locals.now w.old line (Some v) (ex_of e.now) d.old) result w.new d.new }
 {
     let b = right(alloc, s, locals, w, e, d)?;
@@ -87,7 +87,7 @@ fn assign_name(
     t: &Text,
     e: &PyExpr,
     d: &mut Design,
-) -> Result<GStmt, Fault>
+) -> Result<GStmt, Fault<Code>>
     ensures { Does statement_of (spec.assign_name s.now locals.now w.old line (lookup locals.now.numbers t.now) (ex_of e.now) d.old) result w.new d.new }
 {
     match locals.numbers.find(t) {
@@ -106,7 +106,7 @@ fn assign_part(
     target: &PyExpr,
     e: &PyExpr,
     d: &mut Design,
-) -> Result<GStmt, Fault>
+) -> Result<GStmt, Fault<Code>>
     ensures { Reads statement_of (spec.assign_part s.now locals.now w.now line (ex_of target.now) (ex_of e.now) d.old) result d.new }
 {
     let t = part(alloc, s, locals, w, false, e, d)?;
@@ -125,7 +125,7 @@ pub(crate) fn assign(
     target: &PyExpr,
     e: &PyExpr,
     d: &mut Design,
-) -> Result<GStmt, Fault>
+) -> Result<GStmt, Fault<Code>>
     ensures { Does statement_of (spec.assign s.now locals.now w.old line (ex_of target.now) (ex_of e.now) d.old) result w.new d.new }
 {
     match name_in(target) {
@@ -165,7 +165,7 @@ fn augment_local(
     v: u32,
     e: &PyExpr,
     d: &mut Design,
-) -> Result<GStmt, Fault>
+) -> Result<GStmt, Fault<Code>>
     ensures { Does statement_of (spec.augment_name s.now locals.now w.old line op (Some v) (ex_of e.now) d.old) result w.new d.new }
 {
     let a = Boxed::new(alloc, local(w, v)?)?;
@@ -185,7 +185,7 @@ fn augment_name(
     t: &Text,
     e: &PyExpr,
     d: &mut Design,
-) -> Result<GStmt, Fault>
+) -> Result<GStmt, Fault<Code>>
     ensures { Does statement_of (spec.augment_name s.now locals.now w.old line op (lookup locals.now.numbers t.now) (ex_of e.now) d.old) result w.new d.new }
 {
     match locals.numbers.find(t) {
@@ -205,7 +205,7 @@ fn augment_part(
     target: &PyExpr,
     e: &PyExpr,
     d: &mut Design,
-) -> Result<GStmt, Fault>
+) -> Result<GStmt, Fault<Code>>
     ensures { Reads statement_of (spec.augment_part s.now locals.now w.now line op (ex_of target.now) (ex_of e.now) d.old) result d.new }
 {
     let a = part(alloc, s, locals, w, false, target, d)?;
@@ -227,7 +227,7 @@ pub(crate) fn augment(
     target: &PyExpr,
     e: &PyExpr,
     d: &mut Design,
-) -> Result<GStmt, Fault>
+) -> Result<GStmt, Fault<Code>>
     ensures { Does statement_of (spec.augment s.now locals.now w.old line op (ex_of target.now) (ex_of e.now) d.old) result w.new d.new }
 {
     match name_in(target) {
@@ -256,7 +256,7 @@ pub(crate) fn condition(
     w: &Work,
     e: &PyExpr,
     d: &mut Design,
-) -> Result<Typed, Fault>
+) -> Result<Typed, Fault<Code>>
     ensures { Grows (spec.condition s.now locals.now w.now (ex_of e.now) d.old) result d.new }
 {
     let t = part(alloc, s, locals, w, false, e, d)?;
@@ -273,7 +273,7 @@ pub(crate) fn claim(
     line: u32,
     e: &PyExpr,
     d: &mut Design,
-) -> Result<GStmt, Fault>
+) -> Result<GStmt, Fault<Code>>
     ensures { Reads statement_of (spec.claim s.now locals.now w.now line (ex_of e.now) d.old) result d.new }
 {
     let t = condition(alloc, s, locals, w, e, d)?;
@@ -341,7 +341,7 @@ fn printed(
     w: &Work,
     a: &Argument,
     d: &mut Design,
-) -> Result<PrintPart, Fault>
+) -> Result<PrintPart, Fault<Code>>
     ensures { Grows (spec.printed_as (spec.text_in s.now locals.now (part_of (given_of a.now))) (reading s.now locals.now w.now false (part_of (given_of a.now))) d.old) result d.new }
 {
     match text_in(s, locals, &a.value) {
@@ -362,7 +362,7 @@ fn all_printed(
     w: &Work,
     arguments: &[Argument],
     d: &mut Design,
-) -> Result<Items<PrintPart>, Fault>
+) -> Result<Items<PrintPart>, Fault<Code>>
     ensures { Grows (spec.printed_onto s.now locals.now w.now [] (parts_of (map given_of arguments.now)) d.old) result d.new }
 {
     let mut all = Items::new(alloc);
@@ -376,7 +376,7 @@ fn all_printed(
 /// A `print` of these parts, by whether all arguments are given by position.
 #[tactic(auto, using(mh_design::proofs::Shapes::statements))]
 fn print_of(line: u32, positional: bool, parts: Items<PrintPart>) -> Result<GStmt, Code>
-    ensures { Tells statement_of (spec.print_of line positional parts) result }
+    ensures { Becomes statement_of (spec.print_of line positional parts) result }
 {
     if positional {
         Ok(GStmt::Print { line, parts })
@@ -394,7 +394,7 @@ fn show(
     line: u32,
     arguments: &[Argument],
     d: &mut Design,
-) -> Result<GStmt, Fault>
+) -> Result<GStmt, Fault<Code>>
     ensures { Reads statement_of (spec.show s.now locals.now w.now line (keys_of (map given_of arguments.now)) (parts_of (map given_of arguments.now)) d.old) result d.new }
 {
     let parts = all_printed(alloc, s, locals, w, arguments, d)?;
@@ -418,7 +418,7 @@ fn show_if(
     prints: bool,
     arguments: &[Argument],
     d: &mut Design,
-) -> Result<Option<GStmt>, Fault>
+) -> Result<Option<GStmt>, Fault<Code>>
     ensures { Reads (option_map statement_of) (spec.printing prints (spec.show s.now locals.now w.now line (keys_of (map given_of arguments.now)) (parts_of (map given_of arguments.now))) d.old) result d.new }
 {
     if !prints {
@@ -438,7 +438,7 @@ fn called_by_itself(
     f: &PyExpr,
     arguments: &[Argument],
     d: &mut Design,
-) -> Result<Option<GStmt>, Fault>
+) -> Result<Option<GStmt>, Fault<Code>>
     ensures { Reads (option_map statement_of) (spec.by_itself_view s.now locals.now w.now line (Called (keys_of (map given_of arguments.now)) (ex_of f.now) (parts_of (map given_of arguments.now))) d.old) result d.new }
 {
     let prints = is_print(callee_of(s, locals, f));
@@ -455,14 +455,14 @@ fn viewed_by_itself(
     line: u32,
     e: &PyExpr,
     d: &mut Design,
-) -> Result<Option<GStmt>, Fault>
+) -> Result<Option<GStmt>, Fault<Code>>
     ensures { Reads (option_map statement_of) (spec.by_itself_view s.now locals.now w.now line (view (ex_of e.now)) d.old) result d.new }
 {
     match e {
         PyExpr::Group(a) => viewed_by_itself(alloc, s, locals, w, line, a.get(), d),
         PyExpr::Str(_) => Ok(None),
         PyExpr::Call(f, arguments) => {
-            if is_attribute(f.get()) {
+            if is_method(f.get()) {
                 Err(Fault::Broken(Code::E2NotElaborable))
             } else {
                 called_by_itself(alloc, s, locals, w, line, f.get(), arguments.as_slice(), d)
@@ -497,7 +497,7 @@ pub(crate) fn by_itself(
     line: u32,
     e: &PyExpr,
     d: &mut Design,
-) -> Result<Option<GStmt>, Fault>
+) -> Result<Option<GStmt>, Fault<Code>>
     ensures { Reads (option_map statement_of) (spec.by_itself s.now locals.now w.now line (ex_of e.now) d.old) result d.new }
 {
     viewed_by_itself(alloc, s, locals, w, line, e, d)
@@ -512,8 +512,8 @@ pub(crate) fn yields(
     instance: bool,
     line: u32,
     e: &PyExpr,
-) -> Result<GStmt, Fault>
-    ensures { TellsAny statement_of (spec.yields s.now locals.now instance line (ex_of e.now)) result }
+) -> Result<GStmt, Fault<Code>>
+    ensures { Tells statement_of (spec.yields s.now locals.now instance line (ex_of e.now)) result }
 {
     if !instance {
         return Err(Fault::Broken(Code::E2NotElaborable));
@@ -547,7 +547,7 @@ pub(crate) fn is_stop_call(s: &Scope, locals: &Locals, e: &PyExpr) -> bool
     match e {
         PyExpr::Group(a) => is_stop_call(s, locals, a.get()),
         PyExpr::Call(f, arguments) => {
-            !is_attribute(f.get())
+            !is_method(f.get())
                 && has_none(arguments.as_slice())
                 && is_stop(callee_of(s, locals, f.get()))
         }
@@ -609,7 +609,7 @@ fn one_end(
     down: bool,
     a: &Argument,
     d: &mut Design,
-) -> Result<Ends, Fault>
+) -> Result<Ends, Fault<Code>>
     ensures { Grows (spec.one_end down (reading s.now locals.now w.now false (part_of (given_of a.now))) d.old) result d.new }
 {
     let t = part_given(alloc, s, locals, w, a, d)?;
@@ -631,7 +631,7 @@ fn two_ends(
     a: &Argument,
     b: &Argument,
     d: &mut Design,
-) -> Result<Ends, Fault>
+) -> Result<Ends, Fault<Code>>
     ensures { Grows (spec.two_ends down (reading s.now locals.now w.now false (part_of (given_of a.now))) (reading s.now locals.now w.now false (part_of (given_of b.now))) d.old) result d.new }
 {
     let t = part_given(alloc, s, locals, w, a, d)?;
@@ -650,7 +650,7 @@ fn ends_and_step(
     b: &Argument,
     step: &Argument,
     d: &mut Design,
-) -> Result<Ends, Fault>
+) -> Result<Ends, Fault<Code>>
     ensures { Grows (spec.ends_and_step down (reading s.now locals.now w.now false (part_of (given_of a.now))) (reading s.now locals.now w.now false (part_of (given_of b.now))) (constant_number s.now locals.now (part_of (given_of step.now))) d.old) result d.new }
 {
     let t = part_given(alloc, s, locals, w, a, d)?;
@@ -668,7 +668,7 @@ fn misfit(
     w: &Work,
     arguments: &[Argument],
     d: &mut Design,
-) -> Result<Ends, Fault>
+) -> Result<Ends, Fault<Code>>
     ensures { Grows (spec.misfit s.now locals.now w.now (parts_of (map given_of arguments.now)) d.old) result d.new }
 {
     for argument in arguments {
@@ -687,7 +687,7 @@ fn ends_in(
     down: bool,
     arguments: &[Argument],
     d: &mut Design,
-) -> Result<Ends, Fault>
+) -> Result<Ends, Fault<Code>>
     ensures { Grows (spec.ends_in s.now locals.now w.now down (parts_of (map given_of arguments.now)) d.old) result d.new }
 {
     match arguments {
@@ -708,13 +708,13 @@ pub(crate) fn ends(
     w: &Work,
     e: &PyExpr,
     d: &mut Design,
-) -> Result<Ends, Fault>
+) -> Result<Ends, Fault<Code>>
     ensures { Grows (spec.ends s.now locals.now w.now (ex_of e.now) d.old) result d.new }
 {
     match e {
         PyExpr::Group(a) => ends(alloc, s, locals, w, a.get(), d),
         PyExpr::Call(f, arguments) => {
-            if is_attribute(f.get()) {
+            if is_method(f.get()) {
                 return Err(Fault::Broken(Code::E2NotElaborable));
             }
             match is_range(callee_of(s, locals, f.get())) {

@@ -12,16 +12,16 @@ ghost use Rattle.mh_lower.specs.Views.{Attributed, Indexed, Ranged, RangedFrom, 
 ghost use Rattle.mh_exprs.specs.Step.{Grows};
 
 use crate::typed::Left;
-use mh_consts::{Const, Scope};
+use mh_consts::{Const, Scope, name_in};
 use mh_design::{
     Design, Kind, Place, Target, ValueKind, constant_of, is_number, signal_kind, takes,
 };
 use mh_exprs::{
-    Fault, Locals, Typed, Work, bit_fits, bounds_in, cell, is_assigned, is_local, is_named_call,
-    is_word, kind_at, name_in, outside_in, part, place_in, slice_fits, zero_end,
+    Locals, Typed, Work, bit_fits, bounds_in, cell, is_assigned, is_local, is_named_call, is_word,
+    kind_at, outside_in, part, place_in, slice_fits, zero_end,
 };
 use mh_pytree::PyExpr;
-use mh_text::{Code, Text};
+use mh_text::{Code, Fault, Text};
 use sqlite_items::Boxed;
 use std::alloc::Global;
 
@@ -68,7 +68,7 @@ fn listed_place(
     n: u32,
     i: &PyExpr,
     d: &mut Design,
-) -> Result<(Place, Kind), Fault>
+) -> Result<(Place, Kind), Fault<Code>>
     ensures { Grows (spec.element_place s.now (Listed n) (expressions.read s.now locals.now w.now false (ex_of i.now)) d.old) result d.new }
 {
     let t = part(alloc, s, locals, w, false, i, d)?;
@@ -85,7 +85,7 @@ fn tupled_place(
     items: &[Const],
     i: &PyExpr,
     d: &mut Design,
-) -> Result<(Place, Kind), Fault>
+) -> Result<(Place, Kind), Fault<Code>>
     ensures { Grows (spec.element_place s.now (Tupled items.now) (expressions.read s.now locals.now w.now false (ex_of i.now)) d.old) result d.new }
 {
     let t = part(alloc, s, locals, w, false, i, d)?;
@@ -103,7 +103,7 @@ fn element_place(
     a: &PyExpr,
     i: &PyExpr,
     d: &mut Design,
-) -> Result<(Place, Kind), Fault>
+) -> Result<(Place, Kind), Fault<Code>>
     ensures { Grows (spec.element_place s.now (calls.collection_of s.now locals.now (ex_of a.now)) (expressions.read s.now locals.now w.now false (ex_of i.now)) d.old) result d.new }
 {
     match outside_in(s, locals, a) {
@@ -124,7 +124,7 @@ fn next_place(
     w: &Work,
     e: &PyExpr,
     d: &mut Design,
-) -> Result<(Place, Kind), Fault>
+) -> Result<(Place, Kind), Fault<Code>>
     ensures { Grows (spec.next_place s.now locals.now w.now (ex_of e.now) d.old) result d.new }
 {
     match e {
@@ -185,7 +185,7 @@ fn part_place(
     w: &Work,
     e: &PyExpr,
     d: &mut Design,
-) -> Result<(Place, Kind), Fault>
+) -> Result<(Place, Kind), Fault<Code>>
     ensures { Grows (spec.part_place s.now locals.now w.now (ex_of e.now) d.old) result d.new }
 {
     match e {
@@ -235,7 +235,7 @@ fn boxed_place(
     w: &Work,
     e: &PyExpr,
     d: &mut Design,
-) -> Result<Boxed<(Place, Kind)>, Fault>
+) -> Result<Boxed<(Place, Kind)>, Fault<Code>>
     ensures { Grows (spec.part_place s.now locals.now w.now (ex_of e.now) d.old) result d.new }
 {
     Ok(Boxed::new(alloc, part_place(alloc, s, locals, w, e, d)?)?)
@@ -274,7 +274,7 @@ fn next_left(
     a: &PyExpr,
     name: &Text,
     d: &mut Design,
-) -> Result<Left, Fault>
+) -> Result<Left, Fault<Code>>
     ensures { Grows (spec.left_view s.now locals.now w.now (Attributed (ex_of a.now) name.now) d.old) result d.new }
 {
     if !is_word(name, b"next") {
@@ -293,7 +293,7 @@ fn indexed_left(
     a: &PyExpr,
     i: &PyExpr,
     d: &mut Design,
-) -> Result<Left, Fault>
+) -> Result<Left, Fault<Code>>
     ensures { Grows (spec.left_view s.now locals.now w.now (Indexed (ex_of a.now) (ex_of i.now)) d.old) result d.new }
 {
     let p = boxed_place(alloc, s, locals, w, a, d)?;
@@ -311,7 +311,7 @@ fn ranged_left(
     i: &PyExpr,
     j: &PyExpr,
     d: &mut Design,
-) -> Result<Left, Fault>
+) -> Result<Left, Fault<Code>>
     ensures { Grows (spec.left_view s.now locals.now w.now (Ranged (ex_of a.now) (ex_of i.now) (ex_of j.now)) d.old) result d.new }
 {
     let p = boxed_place(alloc, s, locals, w, a, d)?;
@@ -329,7 +329,7 @@ fn ranged_from_left(
     a: &PyExpr,
     i: &PyExpr,
     d: &mut Design,
-) -> Result<Left, Fault>
+) -> Result<Left, Fault<Code>>
     ensures { Grows (spec.left_view s.now locals.now w.now (RangedFrom (ex_of a.now) (ex_of i.now)) d.old) result d.new }
 {
     let p = boxed_place(alloc, s, locals, w, a, d)?;
@@ -348,7 +348,7 @@ fn resized_left(
     a: &PyExpr,
     i: &PyExpr,
     d: &mut Design,
-) -> Result<Left, Fault>
+) -> Result<Left, Fault<Code>>
     ensures { Grows (spec.left_view s.now locals.now w.now (view (plain.slice_from (plain.maker (ex_of a.now)) (ex_of a.now) (ex_of i.now))) d.old) result d.new }
 {
     if is_named_call(a) {
@@ -380,7 +380,7 @@ pub(crate) fn left(
     w: &Work,
     e: &PyExpr,
     d: &mut Design,
-) -> Result<Left, Fault>
+) -> Result<Left, Fault<Code>>
     ensures { Grows (spec.left s.now locals.now w.now (ex_of e.now) d.old) result d.new }
 {
     match e {

@@ -1,17 +1,17 @@
 // What a `yield` and an `@always` wait for.
 ghost use Rattle.std.specs.Prelude.{◌≡◌, [], map};
+ghost use Rattle.mh_text.specs.Faults.{Gives};
 ghost use Rattle.mh_consts.specs.declared.kinds.Const.{out-Const};
 ghost use Rattle.mh_consts.specs.Expression.{ex_of, given_of, keys_of, part_of, parts_of, exs};
 ghost use Rattle.mh_exprs.specs.Calls as calls;
 ghost use Rattle.mh_lower.specs.Waits as spec;
-ghost use Rattle.mh_exprs.specs.Step.{Gives};
 
 use crate::given::given_number;
-use mh_consts::{Builtin, Const, Scope, is_plain};
+use mh_consts::{Builtin, Const, Scope, is_method, is_plain};
 use mh_design::Wait;
-use mh_exprs::{Callee, Fault, Form, Locals, callee_of, form_of, is_attribute, known, names_local};
+use mh_exprs::{Callee, Form, Locals, callee_of, form_of, known, names_local};
 use mh_pytree::{Argument, PyExpr};
-use mh_text::Code;
+use mh_text::{Code, Fault};
 use sqlite_items::Items;
 use std::alloc::Global;
 
@@ -33,7 +33,7 @@ fn delay_call(
     s: &Scope,
     locals: &Locals,
     arguments: &[Argument],
-) -> Result<Wait, Fault>
+) -> Result<Wait, Fault<Code>>
     ensures { Gives (spec.delay_call s.now locals.now (calls.form_of (keys_of (map given_of arguments.now))) (parts_of (map given_of arguments.now))) result }
 {
     match (form_of(arguments), arguments) {
@@ -59,7 +59,7 @@ fn wait_of(v: &Const) -> Result<Wait, Code>
 }
 
 /// What elaboration knows as what is waited for.
-fn held_wait(alloc: Global, s: &Scope, locals: &Locals, e: &PyExpr) -> Result<Wait, Fault>
+fn held_wait(alloc: Global, s: &Scope, locals: &Locals, e: &PyExpr) -> Result<Wait, Fault<Code>>
     ensures { Gives (spec.held_wait s.now locals.now (ex_of e.now)) result }
 {
     if names_local(locals, e) || !is_plain(e, s) {
@@ -78,14 +78,19 @@ fn is_delay(c: Callee) -> bool
 
 /// What one expression waits for.
 #[tactic(auto, using(crate::proofs::ViewForms::views))]
-pub(crate) fn wait_for(alloc: Global, s: &Scope, locals: &Locals, e: &PyExpr) -> Result<Wait, Fault>
+pub(crate) fn wait_for(
+    alloc: Global,
+    s: &Scope,
+    locals: &Locals,
+    e: &PyExpr,
+) -> Result<Wait, Fault<Code>>
     ensures { Gives (spec.wait_for s.now locals.now (ex_of e.now)) result }
 {
     match e {
         PyExpr::Group(a) => wait_for(alloc, s, locals, a.get()),
         PyExpr::Bracketed(_) | PyExpr::Tuple(_) => Err(Fault::Broken(Code::E2NotElaborable)),
         PyExpr::Call(f, arguments) => {
-            if !is_attribute(f.get()) && is_delay(callee_of(s, locals, f.get())) {
+            if !is_method(f.get()) && is_delay(callee_of(s, locals, f.get())) {
                 delay_call(alloc, s, locals, arguments.as_slice())
             } else {
                 held_wait(alloc, s, locals, e)
@@ -111,7 +116,12 @@ pub(crate) fn wait_for(alloc: Global, s: &Scope, locals: &Locals, e: &PyExpr) ->
 
 /// What several expressions wait for.
 #[tactic(auto, using(crate::proofs::Rows::waiting))]
-fn waits_for(alloc: Global, s: &Scope, locals: &Locals, xs: &[PyExpr]) -> Result<Items<Wait>, Fault>
+fn waits_for(
+    alloc: Global,
+    s: &Scope,
+    locals: &Locals,
+    xs: &[PyExpr],
+) -> Result<Items<Wait>, Fault<Code>>
     ensures { Gives (spec.waits_onto s.now locals.now [] (exs (map ex_of xs.now))) result }
 {
     let mut all = Items::new(alloc);
@@ -129,7 +139,7 @@ pub(crate) fn wait_given(
     s: &Scope,
     locals: &Locals,
     a: &Argument,
-) -> Result<Wait, Fault>
+) -> Result<Wait, Fault<Code>>
     ensures { Gives (spec.wait_for s.now locals.now (part_of (given_of a.now))) result }
 {
     wait_for(alloc, s, locals, &a.value)
@@ -142,7 +152,7 @@ pub(crate) fn arguments_wait_for(
     s: &Scope,
     locals: &Locals,
     xs: &[Argument],
-) -> Result<Items<Wait>, Fault>
+) -> Result<Items<Wait>, Fault<Code>>
     ensures { Gives (spec.waits_onto s.now locals.now [] (parts_of (map given_of xs.now))) result }
 {
     let mut all = Items::new(alloc);
@@ -159,7 +169,7 @@ fn tuple_waits_for(
     s: &Scope,
     locals: &Locals,
     xs: &[PyExpr],
-) -> Result<Items<Wait>, Fault>
+) -> Result<Items<Wait>, Fault<Code>>
     ensures { Gives (spec.yielded_items s.now locals.now (exs (map ex_of xs.now))) result }
 {
     if xs.is_empty() {
@@ -175,7 +185,7 @@ pub(crate) fn yielded(
     s: &Scope,
     locals: &Locals,
     e: &PyExpr,
-) -> Result<Items<Wait>, Fault>
+) -> Result<Items<Wait>, Fault<Code>>
     ensures { Gives (spec.yielded s.now locals.now (ex_of e.now)) result }
 {
     match e {

@@ -11,8 +11,8 @@ use Rattle.mh_design.specs.declared.design.Design.{Design}
 use Rattle.mh_design.specs.WellFormed.{outside_count, element_count}
 use Rattle.mh_design.specs.declared.design.Generator.{Generator}
 use Rattle.mh_world.specs.World.{World, Made, Broken, after}
-use Rattle.mh_world.specs.declared.fault.Fault.{Fault}
-use Rattle.mh_world.specs.declared.fault.Fault.TheVariants as fault
+use Rattle.mh_text.specs.declared.fault.Fault.{Fault}
+use Rattle.mh_text.specs.declared.fault.Fault.TheVariants as fault
 use Rattle.mh_world.specs.declared.kinds.Instance.{Instance}
 use Rattle.mh_plans.specs.Paths.{ports_in}
 use Rattle.mh_plans.specs.Renumbered.{Chosen}
@@ -90,8 +90,8 @@ one_more w ps more t ts e =
     ∙ added ps more (plans_of w ts)
 
 -- a design that is refused
-pub refused : (w : World) (all : Result (List Plan) Broken) (ps : List Plan) (t : ℕ) (ts : List ℕ) (e : Fault) → all ≡ after (plans_of w (t ∷ ts)) (λ qs. Ok (ps ++ qs)) → PlansAll (plan_at w t (slice_get w.instances t)) (Err e) → PlansAll all (Err e)
-refused w all ps t ts (fault.Broken code line) h f =
+pub refused : (w : World) (all : Result (List Plan) Broken) (ps : List Plan) (t : ℕ) (ts : List ℕ) (e : Fault Broken) → all ≡ after (plans_of w (t ∷ ts)) (λ qs. Ok (ps ++ qs)) → PlansAll (plan_at w t (slice_get w.instances t)) (Err e) → PlansAll all (Err e)
+refused w all ps t ts (fault.Broken rule) h f =
     h ∙ ap (λ r. after (after r (λ us. after (plans_of w ts) (λ qs. Ok (us ++ qs)))) (λ qs. Ok (ps ++ qs))) f
 refused w all ps t ts fault.Memory h f = tt
 
@@ -99,8 +99,8 @@ refused w all ps t ts fault.Memory h f = tt
 pub one_made : (w : World) (t : ℕ) (x : Instance) (d : Design) (all : List Design) → fitting (plan w t x) ≡ Ok (plan_of d) → all ≡ d ∷ [] → plan_at w t (Some x) ≡ Ok (map plan_of all)
 one_made w t x d all f e = ap (λ r. after r (λ q. Ok (q ∷ []))) f ∙ ap (λ (ds : List Design). Ok (map plan_of ds)) (sym e)
 
-pub one_refused : (w : World) (t : ℕ) (x : Instance) (e : Fault) → Planned (fitting (plan w t x)) (Err e) → PlansAll (plan_at w t (Some x)) (Err e)
-one_refused w t x (fault.Broken code line) f = ap (λ r. after r (λ q. Ok (q ∷ []))) f
+pub one_refused : (w : World) (t : ℕ) (x : Instance) (e : Fault Broken) → Planned (fitting (plan w t x)) (Err e) → PlansAll (plan_at w t (Some x)) (Err e)
+one_refused w t x (fault.Broken rule) f = ap (λ r. after r (λ q. Ok (q ∷ []))) f
 one_refused w t x fault.Memory f = tt
 
 pub nowhere : (w : World) (t : ℕ) (all : List Design) → slice_get w.instances t ≡ None → all ≡ [] → plan_at w t (slice_get w.instances t) ≡ Ok (map plan_of all)
@@ -114,7 +114,7 @@ next_designs w all ts i ds more new h e f g =
     ∙ one_more w (map plan_of ds) (map plan_of more) (get_or ts i 0) (drop (i + 1) ts) f
     ∙ ap (λ ps. after (plans_of w (drop (i + 1) ts)) (λ qs. Ok (ps ++ qs))) (sym (ap (map plan_of) g ∙ map-append plan_of ds more))
 
-pub next_refused : (w : World) (all : Result (List Plan) Broken) (ts : List ℕ) (i : ℕ) (ds : List Design) (e : Fault) → i < length ts → all ≡ after (plans_of w (drop i ts)) (λ qs. Ok (map plan_of ds ++ qs)) → PlansAll (plan_at w (get_or ts i 0) (slice_get w.instances (get_or ts i 0))) (Err e) → PlansAll all (Err e)
+pub next_refused : (w : World) (all : Result (List Plan) Broken) (ts : List ℕ) (i : ℕ) (ds : List Design) (e : Fault Broken) → i < length ts → all ≡ after (plans_of w (drop i ts)) (λ qs. Ok (map plan_of ds ++ qs)) → PlansAll (plan_at w (get_or ts i 0) (slice_get w.instances (get_or ts i 0))) (Err e) → PlansAll all (Err e)
 next_refused w all ts i ds e h f g =
     refused w all (map plan_of ds) (get_or ts i 0) (drop (i + 1) ts) e (f ∙ ap (λ us. after (plans_of w us) (λ qs. Ok (map plan_of ds ++ qs))) (drop_more ts i 0 h)) g
 
@@ -126,8 +126,8 @@ all_made w ts ps rs e f g =
     ∙ ap (λ r. after r (λ qs. Ok (qs, map (request_of ts) w.requests))) f
     ∙ ap (λ (us : List Request). Ok (ps, us)) (sym g)
 
-pub all_refused : (w : World) (ts : List ℕ) (e : Fault) → ts ≡ tops w → PlansAll (plans_of w ts) (Err e) → Plans (plans w) (Err e)
-all_refused w ts (fault.Broken code line) e f =
+pub all_refused : (w : World) (ts : List ℕ) (e : Fault Broken) → ts ≡ tops w → PlansAll (plans_of w ts) (Err e) → Plans (plans w) (Err e)
+all_refused w ts (fault.Broken rule) e f =
     ap (λ us. after (plans_of w us) (λ qs. Ok (qs, map (request_of us) w.requests))) (sym e)
     ∙ ap (λ r. after r (λ qs. Ok (qs, map (request_of ts) w.requests))) f
 all_refused w ts fault.Memory e f = tt

@@ -1,11 +1,11 @@
 -- What the designs of a source are, as the program holds them.
-use Rattle.std.specs.Prelude.{◌≡◌, List, [], map, Result, Ok, Err}
+use Rattle.std.specs.Prelude.{List, [], map, Result}
 use Rattle.mh_design.specs.declared.design.Design.{Design}
 use Rattle.mh_design.specs.declared.design.Generator.{Generator}
 use Rattle.mh_design.specs.Numbering.{body_of}
 use Rattle.mh_world.specs.World.{Broken}
-use Rattle.mh_world.specs.declared.fault.Fault.{Fault}
-use Rattle.mh_world.specs.declared.fault.Fault.TheVariants as fault
+use Rattle.mh_text.specs.declared.fault.Fault.{Fault}
+use Rattle.mh_text.specs.Faults.{Tells}
 use Rattle.mh_plans.specs.declared.designs.Request.{Request}
 use Rattle.mh_plans.specs.declared.designs.Elaborated.{Elaborated}
 use Rattle.mh_plans.specs.Plans.{Drawn, Plan}
@@ -16,19 +16,16 @@ drawn_of g = record { path = g.path; line = g.line; kind = g.kind; locals = g.lo
 abbrev pub plan_of : Design → Plan
 plan_of d = record { design = record d { generators = [] }; generators = map drawn_of d.generators }
 
-abbrev pub Plans : Result (List Plan × List Request) Broken → Result Elaborated Fault → Type 0
-Plans r (Ok x) = r ≡ Ok (map plan_of x.tops, x.requests)
-Plans r (Err (fault.Broken code line)) = r ≡ Err (code, line)
-Plans r (Err fault.Memory) = Unit {0}
+abbrev pub elaborated_of : Elaborated → List Plan × List Request
+elaborated_of x = (map plan_of x.tops, x.requests)
+
+abbrev pub Plans : Result (List Plan × List Request) Broken → Result Elaborated (Fault Broken) → Type 0
+Plans r x = Tells elaborated_of r x
 
 -- one design
-abbrev pub Planned : Result Plan Broken → Result Design Fault → Type 0
-Planned r (Ok d) = r ≡ Ok (plan_of d)
-Planned r (Err (fault.Broken code line)) = r ≡ Err (code, line)
-Planned r (Err fault.Memory) = Unit {0}
+abbrev pub Planned : Result Plan Broken → Result Design (Fault Broken) → Type 0
+Planned r x = Tells plan_of r x
 
 -- several
-abbrev pub PlansAll : Result (List Plan) Broken → Result (List Design) Fault → Type 0
-PlansAll r (Ok ds) = r ≡ Ok (map plan_of ds)
-PlansAll r (Err (fault.Broken code line)) = r ≡ Err (code, line)
-PlansAll r (Err fault.Memory) = Unit {0}
+abbrev pub PlansAll : Result (List Plan) Broken → Result (List Design) (Fault Broken) → Type 0
+PlansAll r x = Tells (map plan_of) r x

@@ -18,8 +18,8 @@ use crate::renumbered::signal_in;
 use crate::sizes::{MOST_GENERATORS, declarations_fit};
 use mh_consts::{Const, Lists};
 use mh_design::Design;
-use mh_text::{Code, Memory, Text};
-use mh_world::{Asked, Fault, Instance, State, Verb, refuse};
+use mh_text::{Code, CodeAt, Fault, Memory, Text};
+use mh_world::{Asked, Instance, State, Verb, refuse};
 use sqlite_items::{Items, at};
 use std::alloc::Global;
 
@@ -155,7 +155,7 @@ fn design_with(
     top: u32,
     x: &Instance,
     gs: &[u32],
-) -> Result<Design, Fault>
+) -> Result<Design, Fault<CodeAt>>
     requires { length (spec.reads_at (world state.now) gs.now) ≤ 1024 }
     ensures { Planned (spec.fitting (spec.plan_with (world state.now) top x.now (spec.reads_at (world state.now) gs.now))) result }
 {
@@ -178,7 +178,7 @@ fn design_of(
     most: u64,
     top: u32,
     x: &Instance,
-) -> Result<Design, Fault>
+) -> Result<Design, Fault<CodeAt>>
     requires { most ≡ steps_of (world state.now).instances }
     ensures { Planned (spec.fitting (spec.plan (world state.now) top x.now)) result }
 {
@@ -209,7 +209,7 @@ fn one_design(
     most: u64,
     top: u32,
     x: &Instance,
-) -> Result<Items<Design>, Fault>
+) -> Result<Items<Design>, Fault<CodeAt>>
     requires { most ≡ steps_of (world state.now).instances }
     ensures { PlansAll (spec.plan_at (world state.now) top (Some x.now)) result }
 {
@@ -227,7 +227,12 @@ fn instance_at<'s>(state: &'s State, top: u32) -> Option<&'s Instance>
 }
 
 /// The design of the instance of a number, if there is one.
-fn designs_at(alloc: Global, state: &State, most: u64, top: u32) -> Result<Items<Design>, Fault>
+fn designs_at(
+    alloc: Global,
+    state: &State,
+    most: u64,
+    top: u32,
+) -> Result<Items<Design>, Fault<CodeAt>>
     requires { most ≡ steps_of (world state.now).instances }
     ensures { PlansAll (spec.plan_at (world state.now) top (slice_get (world state.now).instances top)) result }
 {
@@ -238,7 +243,7 @@ fn designs_at(alloc: Global, state: &State, most: u64, top: u32) -> Result<Items
 }
 
 /// The designs of these instances.
-fn designs_of(alloc: Global, state: &State, tops: &[u32]) -> Result<Items<Design>, Fault>
+fn designs_of(alloc: Global, state: &State, tops: &[u32]) -> Result<Items<Design>, Fault<CodeAt>>
     ensures { PlansAll (spec.plans_of (world state.now) tops.now) result }
 {
     let most = steps(state.instances.as_slice())?;
@@ -276,7 +281,7 @@ fn requests_of(alloc: Global, state: &State, tops: &Numbers) -> Result<Items<Req
 
 /// The designs and requests of what a source has made; or that the first design that is too large is
 /// refused, which has no line.
-pub fn plans(alloc: Global, state: &State) -> Result<Elaborated, Fault>
+pub fn plans(alloc: Global, state: &State) -> Result<Elaborated, Fault<CodeAt>>
     ensures { Plans (spec.plans (world state.now)) result }
 {
     let tops = tops_of(alloc, state)?;

@@ -17,7 +17,7 @@ ghost use Rattle.mh_sched.specs.Notes as notes;
 use crate::statements::{put_lines, put_statements};
 use mh_design::{Design, GStmt, GenKind, Generator, PrintPart, Wait, waits};
 use mh_flat::Code;
-use mh_gen::{BodyCode, MyHdl, code, driven};
+use mh_gen::{BodyCode, MyHdl, code, driven, signal_count};
 use mh_text::Memory;
 use sqlite_items::Items;
 use std::alloc::Global;
@@ -115,18 +115,6 @@ fn count_of(found: &BTreeSet<u32>, count: u32) -> usize
         many = counted(is_in, many);
     }
     many
-}
-
-/// How many signals there are. With 2^32 of them a run wants more memory than there is.
-fn signal_count(d: &Design) -> Result<u32, Memory>
-    ensures { IfOk result (λ n. n ≡ length d.now.signals) }
-{
-    let count = d.signals.len();
-    if count <= u32::MAX as usize {
-        Ok(count as u32)
-    } else {
-        Err(Memory)
-    }
 }
 
 /// How many signals a generator drives.

@@ -1,6 +1,5 @@
 pub mod Parts
-pub mod ReadingLaws
-pub mod Readings
+pub mod RoomLaws
 pub mod Values
 pub mod Woken
 pub mod Holdings

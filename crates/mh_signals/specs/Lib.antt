@@ -1,4 +1,4 @@
-pub mod Reading
+pub mod Rooms
 pub mod Seen
 pub mod Woken
 pub mod Holding

@@ -7,7 +7,6 @@
 mod codes;
 mod limits;
 mod part;
-mod reading;
 mod room;
 mod signals;
 mod start;

@@ -1,12 +1,82 @@
 // How much room the waits of a generator need.
-ghost use Rattle.std.specs.Prelude.{◌≡◌, ◌≤◌, length, map, IfOk};
+ghost use Rattle.std.specs.Prelude.{◌≡◌, ◌≤◌, length, map, max, IfOk};
 ghost use Rattle.mh_design.specs.Bodies.{waits_room};
+ghost use Rattle.mh_design.specs.Tree.{statement_of, arm_of, block, arms};
 ghost use Rattle.mh_design.specs.Uses.{reset_waits};
+ghost use Rattle.mh_signals.specs.Rooms as spec;
 
-use crate::reading::{add_block, block_room};
-use mh_design::{Design, GenKind, Generator};
+use mh_design::{Branch, Design, GStmt, GenKind, Generator, reads};
 use mh_text::Memory;
 use std::alloc::Global;
+
+/// The greater number.
+fn greater(a: usize, b: usize) -> usize
+    ensures { result ≡ max a b }
+{
+    a.max(b)
+}
+
+/// The longest list of waits of a `yield` in a statement.
+#[cycle(room)]
+#[tactic(auto, using(crate::proofs::RoomLaws::statement_shapes))]
+fn statement_room(s: &GStmt) -> usize
+    ensures { result ≡ spec.yield_room (statement_of s.now) }
+{
+    match s {
+        GStmt::If {
+            branches,
+            other,
+            ..
+        } => greater(
+            branches_room(branches.as_slice()),
+            block_room(other.as_slice()),
+        ),
+        GStmt::While { body, .. } => block_room(body.as_slice()),
+        GStmt::For { body, .. } => block_room(body.as_slice()),
+        GStmt::Yield { waits, .. } => waits.len(),
+        GStmt::Set { .. } => 0,
+        GStmt::Break { .. } => 0,
+        GStmt::Continue { .. } => 0,
+        GStmt::Print { .. } => 0,
+        GStmt::Assert { .. } => 0,
+        GStmt::Stop { .. } => 0,
+    }
+}
+
+/// The longest list of waits of a `yield` in these statements.
+#[cycle(room)]
+#[tactic(auto, using(crate::proofs::RoomLaws::statement_shapes))]
+fn block_room(body: &[GStmt]) -> usize
+    ensures { result ≡ spec.block_room (block (map statement_of body.now)) }
+{
+    let mut most = 0;
+    for s in body {
+        most = greater(most, statement_room(s));
+    }
+    most
+}
+
+/// The longest list of waits of a `yield` in a branch.
+#[cycle(room)]
+#[tactic(auto, using(crate::proofs::RoomLaws::statement_shapes))]
+fn branch_room(branch: &Branch) -> usize
+    ensures { result ≡ spec.arm_room (arm_of branch.now) }
+{
+    block_room(branch.body.as_slice())
+}
+
+/// The longest list of waits of a `yield` in these branches.
+#[cycle(room)]
+#[tactic(auto, using(crate::proofs::RoomLaws::statement_shapes))]
+fn branches_room(branches: &[Branch]) -> usize
+    ensures { result ≡ spec.arms_room (arms (map arm_of branches.now)) }
+{
+    let mut most = 0;
+    for branch in branches {
+        most = greater(most, branch_room(branch));
+    }
+    most
+}
 
 /// How many waits the reset of an `@always_seq` adds.
 fn reset_room(d: &Design, reset: Option<u32>) -> usize
@@ -31,9 +101,8 @@ fn room_of(alloc: Global, d: &Design, g: &Generator) -> Result<usize, Memory>
 {
     match &g.kind {
         GenKind::Comb => {
-            let mut all = Vec::new(alloc);
-            add_block(d, g.body.as_slice(), &mut all)?;
-            Ok(all.len())
+            let read = reads(alloc, d, g)?;
+            Ok(read.len())
         }
         GenKind::Always(waits) => Ok(waits.len()),
         GenKind::Seq(_, reset) => Ok(1 + reset_room(d, *reset)),

@@ -5,8 +5,8 @@ use Rattle.mh_world.specs.Statements.{block, st_of}
 use Rattle.mh_world.specs.World as spec
 use Rattle.mh_world.specs.World.{World, Broken}
 use Rattle.mh_world.specs.Signals as signals
-use Rattle.mh_world.specs.declared.fault.Fault.{Fault}
-use Rattle.mh_world.specs.declared.fault.Fault.TheVariants as fault
+use Rattle.mh_text.specs.declared.fault.Fault.{Fault}
+use Rattle.mh_text.specs.Faults.{Tells}
 use Rattle.mh_world.specs.Functions as functions
 use Rattle.mh_world.specs.Arguments as spec_arguments
 use Rattle.mh_world.specs.declared.arguments.Arguments.{Arguments}
@@ -52,25 +52,12 @@ world s = record {
 abbrev pub same : {A : Type 0} → A → A
 same x = x
 
-abbrev pub Does : {A B : Type 0} → (B → A) → Result (A × World) Broken → Result B Fault → World → Type 0
-Does view r (Ok x) w = r ≡ Ok (view x, w)
-Does view r (Err (fault.Broken code line)) w = r ≡ Err (code, line)
-Does view r (Err fault.Memory) w = Unit {0}
+-- with the world after it
+abbrev pub Does : {A B : Type 0} → (B → A) → Result (A × World) Broken → Result B (Fault Broken) → World → Type 0
+Does view r x w = Tells (λ v. (view v, w)) r x
 
 abbrev pub arguments_of : Arguments → spec_arguments.Arguments
 arguments_of a = record { positional = a.positional.now; named = a.named }
 
 abbrev pub content_of : Content → signals.Content
 content_of x = record { values = x.values; kind = x.kind; init = x.init }
-
--- the same of what changes nothing
-abbrev pub Says : {A : Type 0} → Result A Broken → Result A Fault → Type 0
-Says r (Ok x) = r ≡ Ok x
-Says r (Err (fault.Broken code line)) = r ≡ Err (code, line)
-Says r (Err fault.Memory) = Unit {0}
-
--- with what a value of the program is in the definitions
-abbrev pub Tells : {A B : Type 0} → (B → A) → Result A Broken → Result B Fault → Type 0
-Tells view r (Ok x) = r ≡ Ok (view x)
-Tells view r (Err (fault.Broken code line)) = r ≡ Err (code, line)
-Tells view r (Err fault.Memory) = Unit {0}

@@ -9,12 +9,12 @@ ghost use Rattle.mh_world.specs.Once.{IsOnce};
 ghost use Rattle.mh_world.specs.World.{changed};
 ghost use Rattle.mh_world.specs.View.{world, Does, same};
 
-use crate::fault::{Fault, refuse};
+use crate::fault::refuse;
 use crate::kinds::Instance;
 use crate::state::State;
 use mh_consts::{Const, Lists, Names};
 use mh_pytree::Argument;
-use mh_text::{Code, Memory};
+use mh_text::{Code, CodeAt, Fault, Memory};
 use sqlite_items::Items;
 use std::alloc::Global;
 use std::collections::BTreeSet;
@@ -223,7 +223,7 @@ impl<'a> State<'a> {
         line: u32,
         i: u32,
         v: &Const,
-    ) -> Result<Const, Fault>
+    ) -> Result<Const, Fault<CodeAt>>
         ensures { Does same (spec.instance line i v.now (world self.old)) result (world self.new) }
     {
         match self.parts_in(alloc, v)? {
@@ -253,7 +253,7 @@ impl<'a> State<'a> {
         alloc: Global,
         line: u32,
         arguments: &[Argument],
-    ) -> Result<Const, Fault>
+    ) -> Result<Const, Fault<CodeAt>>
         ensures { Does same (spec.find_instances line (keys_of (map given_of arguments.now)) (world self.old)) result (world self.new) }
     {
         match arguments {

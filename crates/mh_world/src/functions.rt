@@ -1,19 +1,20 @@
 // Definitions of functions, and their calls.
 ghost use Rattle.std.specs.Prelude.{◌≡◌, IfOk, OnOk, map, option_copied};
+ghost use Rattle.mh_text.specs.Faults.{Gives};
 ghost use Rattle.mh_consts.specs.Expression.{ex_of, given_of, keys_of};
 ghost use Rattle.mh_pytree.specs.declared.statement.FuncDef.{out-FuncDef};
 ghost use Rattle.mh_world.specs.Functions as spec;
 ghost use Rattle.mh_world.specs.Statements.{block, parameter_of, st_of};
-ghost use Rattle.mh_world.specs.View.{called_of, world, Does, Says, same};
+ghost use Rattle.mh_world.specs.View.{called_of, world, Does, same};
 
 use crate::arguments::{behind, matched};
-use crate::fault::{Fault, refuse};
+use crate::fault::refuse;
 use crate::function::{Called, Function};
 use crate::kinds::{Flow, Mark};
 use crate::state::State;
 use mh_consts::{Builtin, Const, Names, maker, name_in};
 use mh_pytree::{Argument, FuncDef, Param, PyExpr};
-use mh_text::{Code, Memory, Text};
+use mh_text::{Code, CodeAt, Fault, Memory, Text};
 use sqlite_items::{Items, at};
 use std::alloc::Global;
 
@@ -78,8 +79,8 @@ fn defaults_come_last(params: &[Param]) -> bool
 }
 
 /// The parameters of a function differ, and those with a default value come last.
-pub fn parameters_fit(alloc: Global, line: u32, params: &[Param]) -> Result<(), Fault>
-    ensures { Says (spec.parameters_keep line (map parameter_of params.now)) result }
+pub fn parameters_fit(alloc: Global, line: u32, params: &[Param]) -> Result<(), Fault<CodeAt>>
+    ensures { Gives (spec.parameters_keep line (map parameter_of params.now)) result }
 {
     if all_differ(alloc, params)? && defaults_come_last(params) {
         Ok(())
@@ -140,7 +141,7 @@ fn copy_bindings(alloc: Global, bs: &[(Text, Const)]) -> Result<Items<(Text, Con
 
 impl<'a> State<'a> {
     /// What one decorator makes of a definition: `block` stands without arguments.
-    fn mark_by(&self, line: u32, e: &PyExpr) -> Result<Mark, Fault>
+    fn mark_by(&self, line: u32, e: &PyExpr) -> Result<Mark, Fault<CodeAt>>
         ensures { Does same (spec.mark_by line (spec.is_named (ex_of e.now)) (spec.mark_name (ex_of e.now)) (world self.now)) result (world self.now) }
     {
         let Some(t) = mark_name(e) else {
@@ -159,7 +160,7 @@ impl<'a> State<'a> {
     }
 
     /// What its decorators make of a definition.
-    pub fn marked(&self, line: u32, marks: &[PyExpr]) -> Result<Mark, Fault>
+    pub fn marked(&self, line: u32, marks: &[PyExpr]) -> Result<Mark, Fault<CodeAt>>
         ensures { Does same (spec.marked line (map ex_of marks.now) (world self.now)) result (world self.now) }
     {
         match marks {
@@ -198,7 +199,7 @@ impl<'a> State<'a> {
         f: &'a FuncDef,
         is_block: bool,
         values: &[Const],
-    ) -> Result<(), Fault>
+    ) -> Result<(), Fault<CodeAt>>
         ensures { Does same (spec.new_function (out-FuncDef f.now).line (out-FuncDef f.now).name is_block (spec.with_defaults (map parameter_of (out-FuncDef f.now).params) values.now) (block (map st_of (out-FuncDef f.now).body)) (world self.old)) result (world self.new) }
     {
         let n = self.functions.len();
@@ -230,7 +231,7 @@ impl<'a> State<'a> {
         n: u32,
         arguments: &[Argument],
         values: &[Const],
-    ) -> Result<Called<'a>, Fault>
+    ) -> Result<Called<'a>, Fault<CodeAt>>
         ensures { Does called_of (spec.callee line n (keys_of (map given_of arguments.now)) values.now (world self.now)) result (world self.now) }
     {
         let Some(f) = self.functions.get(n as usize) else {
@@ -253,7 +254,11 @@ impl<'a> State<'a> {
     }
 
     /// A call of a function under `@block` begins: the instance that it makes.
-    fn enter_block(&mut self, alloc: Global, d: &Called<'a>) -> Result<(u32, Option<u32>), Fault>
+    fn enter_block(
+        &mut self,
+        alloc: Global,
+        d: &Called<'a>,
+    ) -> Result<(u32, Option<u32>), Fault<CodeAt>>
         ensures { Does same (spec.enter_block (called_of d.now) (world self.old)) result (world self.new) }
     {
         let caller = self.current;
@@ -270,7 +275,11 @@ impl<'a> State<'a> {
     }
 
     /// A call of a plain function begins.
-    fn enter_plain(&mut self, alloc: Global, d: &Called<'a>) -> Result<(u32, Option<u32>), Fault>
+    fn enter_plain(
+        &mut self,
+        alloc: Global,
+        d: &Called<'a>,
+    ) -> Result<(u32, Option<u32>), Fault<CodeAt>>
         ensures { Does same (spec.enter_plain (called_of d.now) (world self.old)) result (world self.new) }
     {
         let caller = self.current;
@@ -282,7 +291,11 @@ impl<'a> State<'a> {
 
     /// A call begins, in a frame of its own: the frame in which the caller goes on, and the instance
     /// that the call makes, if it is that of a block.
-    pub fn enter(&mut self, alloc: Global, d: &Called<'a>) -> Result<(u32, Option<u32>), Fault>
+    pub fn enter(
+        &mut self,
+        alloc: Global,
+        d: &Called<'a>,
+    ) -> Result<(u32, Option<u32>), Fault<CodeAt>>
         ensures { Does same (spec.enter (called_of d.now) (world self.old)) result (world self.new) }
     {
         if d.is_block {
@@ -293,7 +306,7 @@ impl<'a> State<'a> {
     }
 
     /// A `return` with a value.
-    pub fn returned(&self, line: u32, v: Const) -> Result<Flow, Fault>
+    pub fn returned(&self, line: u32, v: Const) -> Result<Flow, Fault<CodeAt>>
         ensures { Does same (spec.returned line v (world self.now)) result (world self.now) }
     {
         if self.current == 0 {
@@ -303,7 +316,13 @@ impl<'a> State<'a> {
     }
 
     /// What the call of a block gives: its instance, if it has returned one.
-    fn instance_of(&mut self, alloc: Global, line: u32, i: u32, flow: Flow) -> Result<Const, Fault>
+    fn instance_of(
+        &mut self,
+        alloc: Global,
+        line: u32,
+        i: u32,
+        flow: Flow,
+    ) -> Result<Const, Fault<CodeAt>>
         ensures { Does same (spec.instance_of line i flow (world self.old)) result (world self.new) }
     {
         match flow {
@@ -319,7 +338,7 @@ impl<'a> State<'a> {
         line: u32,
         caller: (u32, Option<u32>),
         flow: Flow,
-    ) -> Result<Const, Fault>
+    ) -> Result<Const, Fault<CodeAt>>
         ensures { Does same (spec.leave line caller flow (world self.old)) result (world self.new) }
     {
         self.back_to(caller.0);

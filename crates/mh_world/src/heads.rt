@@ -10,11 +10,11 @@ ghost use Rattle.mh_world.specs.Seen.{scope_of};
 ghost use Rattle.mh_world.specs.View.{world, Does, same};
 
 use crate::arguments::{behind, is_word, one_positional};
-use crate::fault::{Fault, refuse};
+use crate::fault::refuse;
 use crate::state::State;
 use mh_consts::{Builtin, Const, Names, attribute_in, maker, operate};
 use mh_pytree::{Argument, PyExpr};
-use mh_text::{Code, Memory, Refusal, Text};
+use mh_text::{Code, CodeAt, Fault, Memory, Refusal, Text};
 use sqlite_items::{Items, at};
 use std::alloc::Global;
 
@@ -108,7 +108,7 @@ impl<'a> State<'a> {
         line: u32,
         e: &PyExpr,
         values: &[Const],
-    ) -> Result<Const, Fault>
+    ) -> Result<Const, Fault<CodeAt>>
         ensures { Does same (spec.computed_in line (ex_of e.now) values.now (world self.old)) result (world self.new) }
     {
         self.speak_of(alloc, e)?;
@@ -132,7 +132,7 @@ impl<'a> State<'a> {
         n: u32,
         arguments: &[Argument],
         values: &[Const],
-    ) -> Result<Const, Fault>
+    ) -> Result<Const, Fault<CodeAt>>
         ensures { Does same (spec.append_one line n (keys_of (map given_of arguments.now)) values.now (world self.old)) result (world self.new) }
     {
         match one_positional(arguments, values) {
@@ -153,7 +153,7 @@ impl<'a> State<'a> {
         arguments: &[Argument],
         n: u32,
         values: &[Const],
-    ) -> Result<Const, Fault>
+    ) -> Result<Const, Fault<CodeAt>>
         ensures { Does same (spec.list_method line name.now (keys_of (map given_of arguments.now)) n values.now (world self.old)) result (world self.new) }
     {
         if is_word(name, b"append") {
@@ -175,7 +175,7 @@ impl<'a> State<'a> {
         name: &Text,
         arguments: &[Argument],
         values: &[Const],
-    ) -> Result<Const, Fault>
+    ) -> Result<Const, Fault<CodeAt>>
         requires { spec.head_in (ex_of e.now) ≡ Some (x.Method name.now (keys_of (map given_of arguments.now))) }
         ensures { Does same (spec.operate line (x.Method name.now (keys_of (map given_of arguments.now))) values.now (world self.old)) result (world self.new) }
     {
@@ -201,7 +201,7 @@ impl<'a> State<'a> {
         builtin: Builtin,
         arguments: &[Argument],
         values: &[Const],
-    ) -> Result<Const, Fault>
+    ) -> Result<Const, Fault<CodeAt>>
         requires { spec.head_in (ex_of e.now) ≡ Some (x.Call (keys_of (map given_of arguments.now))) }
         ensures { Does same (spec.call_builtin line builtin (keys_of (map given_of arguments.now)) values.now (world self.old)) result (world self.new) }
     {
@@ -241,7 +241,7 @@ impl<'a> State<'a> {
         f: &PyExpr,
         arguments: &[Argument],
         values: &[Const],
-    ) -> Result<Const, Fault>
+    ) -> Result<Const, Fault<CodeAt>>
         requires { e.now ≡ tree.Call f.now arguments.now }
         ensures { Does same (spec.operate_in line (ex_of e.now) values.now (world self.old)) result (world self.new) }
     {
@@ -259,7 +259,7 @@ impl<'a> State<'a> {
         line: u32,
         e: &PyExpr,
         values: Items<Const>,
-    ) -> Result<Const, Fault>
+    ) -> Result<Const, Fault<CodeAt>>
         ensures { Does same (spec.operate_in line (ex_of e.now) values (world self.old)) result (world self.new) }
     {
         match e {

@@ -22,7 +22,7 @@ mod requests;
 mod signals;
 mod state;
 
-pub use fault::{Fault, at_line, refuse};
+pub use fault::{at_line, refuse};
 pub use function::{Called, Function, Made};
 pub use functions::parameters_fit;
 pub use kinds::{Asked, Flow, Frame, Instance, Label, ListNote, Mark, Marks, Verb};

@@ -7,19 +7,19 @@ ghost use Rattle.mh_world.specs.Named as named;
 ghost use Rattle.mh_world.specs.View.{world, Does, same};
 ghost use Rattle.mh_world.specs.World as spec;
 
-use crate::fault::{Fault, at_line, refuse};
+use crate::fault::{at_line, refuse};
 use crate::kinds::ListNote;
 use crate::marks::{element, label_of_list};
 use crate::state::State;
 use mh_consts::{Const, place};
 use mh_num::{add, mul};
-use mh_text::{Code, Memory};
+use mh_text::{Code, CodeAt, Fault, Memory};
 use sqlite_items::Items;
 use std::alloc::Global;
 
 impl<'a> State<'a> {
     /// Makes a list, by the statement at a line.
-    pub fn new_list(&mut self, line: u32, items: Items<Const>) -> Result<Const, Fault>
+    pub fn new_list(&mut self, line: u32, items: Items<Const>) -> Result<Const, Fault<CodeAt>>
         ensures { Does same (lists.new_list line items (world self.old)) result (world self.new) }
     {
         let n = self.scope.lists.len();
@@ -60,7 +60,13 @@ impl<'a> State<'a> {
 
     /// `list.append(v)`
     #[tactic(auto, using(std::proofs::lemmas::Option::slice_get_within))]
-    pub fn append(&mut self, alloc: Global, line: u32, n: u32, v: Const) -> Result<Const, Fault>
+    pub fn append(
+        &mut self,
+        alloc: Global,
+        line: u32,
+        n: u32,
+        v: Const,
+    ) -> Result<Const, Fault<CodeAt>>
         ensures { Does same (lists.append line n v (world self.old)) result (world self.new) }
     {
         let Some(items) = self.scope.lists.get(n) else {
@@ -96,7 +102,7 @@ impl<'a> State<'a> {
         base: &Const,
         at: &Const,
         v: Const,
-    ) -> Result<(), Fault>
+    ) -> Result<(), Fault<CodeAt>>
         ensures { Does same (lists.set_item line base.now at.now v (world self.old)) result (world self.new) }
     {
         let Const::List(n) = base else {
@@ -121,7 +127,7 @@ impl<'a> State<'a> {
         line: u32,
         over: &Const,
         place: u64,
-    ) -> Result<Option<Const>, Fault>
+    ) -> Result<Option<Const>, Fault<CodeAt>>
         ensures { Does same (lists.item line over.now place (world self.now)) result (world self.now) }
     {
         match over {
@@ -137,7 +143,12 @@ impl<'a> State<'a> {
 
     /// The items of a tuple or a list.
     #[tactic(auto, using(mh_consts::proofs::Values::values))]
-    pub fn items_of(&self, alloc: Global, line: u32, v: &Const) -> Result<Items<Const>, Fault>
+    pub fn items_of(
+        &self,
+        alloc: Global,
+        line: u32,
+        v: &Const,
+    ) -> Result<Items<Const>, Fault<CodeAt>>
         ensures { Does same (spec.seeing line (lists.items_of v.now) (world self.now)) result (world self.now) }
     {
         match v {

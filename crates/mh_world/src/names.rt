@@ -5,13 +5,13 @@ ghost use Rattle.mh_world.specs.Named as named;
 ghost use Rattle.mh_world.specs.Seen as seen;
 ghost use Rattle.mh_world.specs.View.{world, Does, same};
 
-use crate::fault::{Fault, refuse};
+use crate::fault::refuse;
 use crate::frames::{find_from, last_in};
 use crate::kinds::Label;
 use crate::marks::label_value;
 use crate::state::State;
 use mh_consts::Const;
-use mh_text::{Code, Memory, Text};
+use mh_text::{Code, CodeAt, Fault, Memory, Text};
 use sqlite_items::Items;
 use std::alloc::Global;
 
@@ -42,7 +42,7 @@ impl<'a> State<'a> {
     }
 
     /// The value of a name.
-    pub fn name(&self, alloc: Global, line: u32, t: &Text) -> Result<Const, Fault>
+    pub fn name(&self, alloc: Global, line: u32, t: &Text) -> Result<Const, Fault<CodeAt>>
         ensures { Does same (seen.name line t.now (world self.now)) result (world self.now) }
     {
         match self.find(t) {
@@ -167,7 +167,13 @@ impl<'a> State<'a> {
     }
 
     /// Binds a name, unless a generator has read it.
-    pub fn bind_name(&mut self, alloc: Global, line: u32, t: &Text, v: Const) -> Result<(), Fault>
+    pub fn bind_name(
+        &mut self,
+        alloc: Global,
+        line: u32,
+        t: &Text,
+        v: Const,
+    ) -> Result<(), Fault<CodeAt>>
         ensures { Does same (named.bind_name line t.now v (world self.old)) result (world self.new) }
     {
         if self.is_frozen(t) {

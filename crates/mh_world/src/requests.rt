@@ -5,12 +5,12 @@ ghost use Rattle.mh_world.specs.Requests as requests;
 ghost use Rattle.mh_world.specs.View.{arguments_of, world, Does, same};
 
 use crate::arguments::{Arguments, is_word, split};
-use crate::fault::{Fault, refuse};
+use crate::fault::refuse;
 use crate::kinds::{Asked, Verb};
 use crate::state::State;
 use mh_consts::{Const, content};
 use mh_pytree::Argument;
-use mh_text::{Code, Memory, Text};
+use mh_text::{Code, CodeAt, Fault, Memory, Text};
 use std::alloc::Global;
 
 /// The time up to which a run goes.
@@ -67,7 +67,7 @@ impl<'a> State<'a> {
         instance: u32,
         n: u32,
         line: u32,
-    ) -> Result<Const, Fault>
+    ) -> Result<Const, Fault<CodeAt>>
         ensures { Does same (requests.ask verb instance n line (world self.old)) result (world self.new) }
     {
         self.requests.push(Asked {
@@ -86,7 +86,7 @@ impl<'a> State<'a> {
         line: u32,
         instance: u32,
         given: &Arguments,
-    ) -> Result<Const, Fault>
+    ) -> Result<Const, Fault<CodeAt>>
         ensures { Does same (requests.run_for line instance (arguments_of given.now) (world self.old)) result (world self.new) }
     {
         match duration_given(alloc, given)? {
@@ -103,7 +103,7 @@ impl<'a> State<'a> {
         instance: u32,
         arguments: &[Argument],
         values: &[Const],
-    ) -> Result<Const, Fault>
+    ) -> Result<Const, Fault<CodeAt>>
         ensures { Does same (requests.run_sim line instance (keys_of (map given_of arguments.now)) values.now (world self.old)) result (world self.new) }
     {
         let Some(given) = split(alloc, arguments, values)? else {
@@ -121,7 +121,7 @@ impl<'a> State<'a> {
         arguments: &[Argument],
         instance: u32,
         values: &[Const],
-    ) -> Result<Const, Fault>
+    ) -> Result<Const, Fault<CodeAt>>
         ensures { Does same (requests.instance_method line name.now (keys_of (map given_of arguments.now)) instance values.now (world self.old)) result (world self.new) }
     {
         if is_word(name, b"convert") {

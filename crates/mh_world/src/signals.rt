@@ -8,12 +8,12 @@ ghost use Rattle.mh_world.specs.Signals as spec;
 ghost use Rattle.mh_world.specs.View.{arguments_of, content_of, world, Does, same};
 
 use crate::arguments::{Arguments, is_word, one_positional, only, split};
-use crate::fault::{Fault, refuse};
+use crate::fault::refuse;
 use crate::state::State;
 use mh_consts::{Const, Names, Shared, SignalKind, content};
 use mh_design::{Design, Encoding, EnumDecl, Kind, ResetDecl, SignalDecl, enum_fits, item_code};
 use mh_pytree::Argument;
-use mh_text::{Code, Memory, Text};
+use mh_text::{Code, CodeAt, Fault, Memory, Text};
 use sqlite_items::Items;
 use std::alloc::Global;
 
@@ -289,7 +289,7 @@ impl<'a> State<'a> {
         line: u32,
         arguments: &[Argument],
         values: &[Const],
-    ) -> Result<Const, Fault>
+    ) -> Result<Const, Fault<CodeAt>>
         ensures { Does same (spec.make_delay line (keys_of (map given_of arguments.now)) values.now (world self.now)) result (world self.now) }
     {
         match one_positional(arguments, values) {
@@ -308,7 +308,7 @@ impl<'a> State<'a> {
         line: u32,
         x: Content,
         reset: Option<ResetDecl>,
-    ) -> Result<Const, Fault>
+    ) -> Result<Const, Fault<CodeAt>>
         ensures { Does same (spec.new_signal line (content_of x) reset (world self.old)) result (world self.new) }
     {
         let n = self.design.signals.len();
@@ -333,7 +333,7 @@ impl<'a> State<'a> {
         line: u32,
         arguments: &[Argument],
         values: &[Const],
-    ) -> Result<Const, Fault>
+    ) -> Result<Const, Fault<CodeAt>>
         ensures { Does same (spec.make_signal line (keys_of (map given_of arguments.now)) values.now (world self.old)) result (world self.new) }
     {
         match one_positional(arguments, values) {
@@ -352,7 +352,7 @@ impl<'a> State<'a> {
         line: u32,
         arguments: &[Argument],
         values: &[Const],
-    ) -> Result<Const, Fault>
+    ) -> Result<Const, Fault<CodeAt>>
         ensures { Does same (spec.make_reset line (keys_of (map given_of arguments.now)) values.now (world self.old)) result (world self.new) }
     {
         let Some(given) = split(alloc, arguments, values)? else {
@@ -371,7 +371,7 @@ impl<'a> State<'a> {
         line: u32,
         names: Items<Text>,
         encoding: Encoding,
-    ) -> Result<Const, Fault>
+    ) -> Result<Const, Fault<CodeAt>>
         ensures { Does same (spec.new_enum line names encoding (world self.old)) result (world self.new) }
     {
         let n = self.design.enums.len();
@@ -394,7 +394,7 @@ impl<'a> State<'a> {
         line: u32,
         names: Items<Text>,
         encoding: Encoding,
-    ) -> Result<Const, Fault>
+    ) -> Result<Const, Fault<CodeAt>>
         ensures { Does same (spec.enum_items line names encoding (world self.old)) result (world self.new) }
     {
         if names.len() == 0 {
@@ -413,7 +413,7 @@ impl<'a> State<'a> {
         line: u32,
         arguments: &[Argument],
         values: &[Const],
-    ) -> Result<Const, Fault>
+    ) -> Result<Const, Fault<CodeAt>>
         ensures { Does same (spec.make_enum line (keys_of (map given_of arguments.now)) values.now (world self.old)) result (world self.new) }
     {
         let Some(given) = split(alloc, arguments, values)? else {

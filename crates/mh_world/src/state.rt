@@ -3,13 +3,13 @@ ghost use Rattle.std.specs.Prelude.{◌≡◌, ◌+◌, IfOk, OnOk};
 ghost use Rattle.mh_world.specs.View.{world, Does, same};
 ghost use Rattle.mh_world.specs.World as spec;
 
-use crate::fault::{Fault, refuse};
+use crate::fault::refuse;
 use crate::function::{Function, Made};
 use crate::kinds::{Asked, Frame, Instance, Label, Marks};
 use crate::pool::Pool;
 use mh_consts::{Builtin, Const, Lists, Names, Scope, Shared};
 use mh_design::Design;
-use mh_text::{Code, Memory, Text};
+use mh_text::{Code, CodeAt, Fault, Memory, Text};
 use sqlite_items::Items;
 use std::alloc::Global;
 
@@ -38,7 +38,7 @@ pub struct State<'a> {
 
 impl<'a> State<'a> {
     /// A statement is reached, or an item of a list with `for`.
-    pub fn counted(&mut self, line: u32) -> Result<(), Fault>
+    pub fn counted(&mut self, line: u32) -> Result<(), Fault<CodeAt>>
         ensures { Does same (spec.counted line (world self.old)) result (world self.new) }
     {
         if self.left == 0 {

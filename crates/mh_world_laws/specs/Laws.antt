@@ -73,7 +73,8 @@ abbrev pub BlocksHaveParts : Type 0
 BlocksHaveParts = (s : St) (b : Block) → IsSource (Then s b) → Parts s × IsSource b
 
 abbrev pub DefinitionsHaveParts : Type 0
-DefinitionsHaveParts = (l : ℕ) (t : List ℕ) (ms : List Ex) (ps : List Parameter) (b : Block) → IsDefinition (Func l t ms ps b) → (is_name t ≡ true) × (list_all (λ p. is_name p.0) ps ≡ true) × IsSource b
+DefinitionsHaveParts = (l : ℕ) (t : List ℕ) (ms : List Ex) (ps : List Parameter) (b : Block) → IsDefinition (Func l t ms ps b) →
+    (is_name t ≡ true) × (list_all (λ p. is_name p.0) ps ≡ true) × IsSource b
 
 -- ---- values and designs
 

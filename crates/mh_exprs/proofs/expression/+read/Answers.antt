@@ -25,24 +25,24 @@ pub first-argument-requires : goal.first-argument-requires
 first-argument-requires n c =
     let deep : argument_depth c.part-item.result ≤ deepest (map argument_depth c.args.arguments.now) =
     subst (λ a. argument_depth a ≤ deepest (map argument_depth c.args.arguments.now)) (sym c.part-item.is) (deepest_at c.args.arguments.now c.loop-part.part-index c.part-item.result c.loop-part-test.true) in
-    let here : 6 * deepest (map argument_depth c.args.arguments.now) + 3 ≡ n = c.decreases in
-    let low : 6 * argument_depth c.part-item.result + 2 < n = omega (arith, deep, here) in
+    let here : 7 * deepest (map argument_depth c.args.arguments.now) + 3 ≡ n = c.decreases in
+    let low : 7 * argument_depth c.part-item.result + 2 < n = omega (arith, deep, here) in
     (low, tt)
 
 pub row-argument-requires : goal.row-argument-requires
 row-argument-requires n c =
     let deep : argument_depth c.part-item.result ≤ deepest (map argument_depth c.args.arguments.now) =
     subst (λ a. argument_depth a ≤ deepest (map argument_depth c.args.arguments.now)) (sym c.part-item.is) (deepest_at c.args.arguments.now c.loop-part.part-index c.part-item.result c.loop-part-test.true) in
-    let here : 6 * deepest (map argument_depth c.args.arguments.now) + 3 ≡ n = c.decreases in
-    let low : 6 * argument_depth c.part-item.result + 2 < n = omega (arith, deep, here) in
+    let here : 7 * deepest (map argument_depth c.args.arguments.now) + 3 ≡ n = c.decreases in
+    let low : 7 * argument_depth c.part-item.result + 2 < n = omega (arith, deep, here) in
     (low, tt)
 
 pub misfit-argument-requires : goal.misfit-argument-requires
 misfit-argument-requires n c =
     let deep : argument_depth c.part-item.result ≤ deepest (map argument_depth c.args.arguments.now) =
     subst (λ a. argument_depth a ≤ deepest (map argument_depth c.args.arguments.now)) (sym c.part-item.is) (deepest_at c.args.arguments.now c.loop-part.part-index c.part-item.result c.loop-part-test.true) in
-    let here : 6 * deepest (map argument_depth c.args.arguments.now) + 3 ≡ n = c.decreases in
-    let low : 6 * argument_depth c.part-item.result + 2 < n = omega (arith, deep, here) in
+    let here : 7 * deepest (map argument_depth c.args.arguments.now) + 3 ≡ n = c.decreases in
+    let low : 7 * argument_depth c.part-item.result + 2 < n = omega (arith, deep, here) in
     (low, tt)
 
 pub form-slice_to-requires : goal.form-slice_to-requires
@@ -50,6 +50,6 @@ form-slice_to-requires n c =
     let whole : c.args.e.now ≡ tree.Slice c.get-in-Some.result.now c.get-in-Some-2.result.now (Some c.get-in-Some-3.result.now) = search rules in
     let deep : expr_depth c.args.e.now ≡ suc (max (expr_depth c.get-in-Some.result.now) (max (expr_depth c.get-in-Some-2.result.now) (expr_depth c.get-in-Some-3.result.now))) =
     ap expr_depth whole ∙ depth-slice c.get-in-Some.result.now c.get-in-Some-2.result.now (Some c.get-in-Some-3.result.now) in
-    let here : 6 * expr_depth c.args.e.now ≡ n = c.decreases in
-    let low : 6 * max (expr_depth c.get-in-Some.result.now) (max (expr_depth c.get-in-Some-2.result.now) (expr_depth c.get-in-Some-3.result.now)) + 2 < n = omega (arith, deep, here) in
+    let here : 7 * expr_depth c.args.e.now ≡ n = c.decreases in
+    let low : 7 * max (expr_depth c.get-in-Some.result.now) (max (expr_depth c.get-in-Some-2.result.now) (expr_depth c.get-in-Some-3.result.now)) + 2 < n = omega (arith, deep, here) in
     (low, tt)

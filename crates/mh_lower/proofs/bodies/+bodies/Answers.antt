@@ -8,7 +8,7 @@ use Rattle.mh_lower.specs.Bodies.{branches_of, read_lines, read_choices, with_an
 use Rattle.mh_lower.specs.Body.{line_of, choice_of, lines, choices}
 use Rattle.mh_lower.specs.Run.{Runs}
 use Rattle.mh_lower.proofs.Deepest.{deepest_at}
-use Rattle.mh_lower.proofs.Lines.{branches_end, branches_refused, branches_step, if-read, lines_end, lines_refused, lines_step, raised, runs_same}
+use Rattle.mh_lower.proofs.Lines.{branches_end, branches_refused, branches_step, break-read, continue-read, if-read, lines_end, lines_refused, lines_step, raise-read, raised, runs_same, yield-read}
 use Rattle.mh_lower.proofs.bodies.+bodies.Goals as goal
 
 pub read_branch-read_lines-requires : goal.read_branch-read_lines-requires
@@ -75,6 +75,30 @@ read_line-returns-in-If t c =
     runs_same (option_map statement_of) _ _ c.read_if.result c.read_if.new.w c.read_if.new.d
     (if-read c.args.s.now c.args.locals.now c.args.instance c.args.in_loop c.args.x.now c.in-If.l c.in-If.branches c.as_slice-choices.result.now c.in-If.other c.args.w.now c.args.d.now c.in-If.is c.as_slice-choices.ensures)
     c.read_if.ensures
+
+pub read_line-returns-in-Break : goal.read_line-returns-in-Break
+read_line-returns-in-Break t c =
+    runs_same (option_map statement_of) _ _ c.break_line.result c.break_line.new.w c.args.d.now
+    (break-read c.args.s.now c.args.locals.now c.args.instance c.args.in_loop c.args.x.now c.in-Break.l c.args.w.now c.args.d.now c.in-Break.is)
+    (c.break_line.ensures c.args.d.now)
+
+pub read_line-returns-in-Continue : goal.read_line-returns-in-Continue
+read_line-returns-in-Continue t c =
+    runs_same (option_map statement_of) _ _ c.continue_line.result c.continue_line.new.w c.args.d.now
+    (continue-read c.args.s.now c.args.locals.now c.args.instance c.args.in_loop c.args.x.now c.in-Continue.l c.args.w.now c.args.d.now c.in-Continue.is)
+    (c.continue_line.ensures c.args.d.now)
+
+pub read_line-returns-in-Yield : goal.read_line-returns-in-Yield
+read_line-returns-in-Yield t c =
+    runs_same (option_map statement_of) _ _ c.yield_line.result c.args.w.now c.args.d.now
+    (yield-read c.args.s.now c.args.locals.now c.args.instance c.args.in_loop c.args.x.now c.in-Yield.l c.in-Yield.e c.args.w.now c.args.d.now c.in-Yield.is)
+    (c.yield_line.ensures c.args.w.now c.args.d.now)
+
+pub read_line-returns-in-Raise : goal.read_line-returns-in-Raise
+read_line-returns-in-Raise t c =
+    runs_same (option_map statement_of) _ _ c.raise_line.result c.raise_line.new.w c.args.d.now
+    (raise-read c.args.s.now c.args.locals.now c.args.instance c.args.in_loop c.args.x.now c.in-Raise.l c.in-Raise.e c.args.w.now c.args.d.now c.in-Raise.is)
+    (c.raise_line.ensures c.args.d.now)
 
 pub read_lines-read_line-requires : goal.read_lines-read_line-requires
 read_lines-read_line-requires t c =

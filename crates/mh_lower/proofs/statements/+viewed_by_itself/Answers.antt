@@ -20,8 +20,8 @@ plain_call : (e f : PyExpr) (gs : List Argument) → e ≡ tree.Call f gs → is
     view (ex_of e) ≡ Called (keys_of (map given_of gs)) (ex_of f) (parts_of (map given_of gs))
 plain_call e f gs h k = ap (λ x. view (ex_of x)) h ∙ ap view (ex-call f gs) ∙ plain_view (attribute_in (ex_of f)) (ex_of f) (keys_of (map given_of gs)) (parts_of (map given_of gs)) k
 
-pub returns-else-is_attribute : goal.returns-else-is_attribute
-returns-else-is_attribute n c =
-    let is : c.args.e.now ≡ tree.Call c.get-else-is_attribute.result.now c.as_slice.result.now = search rules in
-    let plain : is_some (attribute_in (ex_of c.get-else-is_attribute.result.now)) ≡ false = search rules in
-    subst (λ (x : View). Reads (option_map statement_of) (by_itself_view c.args.s.now c.args.locals.now c.args.w.now c.args.line x c.args.d.now) c.called_by_itself.result c.called_by_itself.new.d) (sym (plain_call c.args.e.now c.get-else-is_attribute.result.now c.as_slice.result.now is plain)) c.called_by_itself.ensures
+pub returns-else-is_method : goal.returns-else-is_method
+returns-else-is_method n c =
+    let is : c.args.e.now ≡ tree.Call c.get-else-is_method.result.now c.as_slice.result.now = search rules in
+    let plain : is_some (attribute_in (ex_of c.get-else-is_method.result.now)) ≡ false = search rules in
+    subst (λ (x : View). Reads (option_map statement_of) (by_itself_view c.args.s.now c.args.locals.now c.args.w.now c.args.line x c.args.d.now) c.called_by_itself.result c.called_by_itself.new.d) (sym (plain_call c.args.e.now c.get-else-is_method.result.now c.as_slice.result.now is plain)) c.called_by_itself.ensures

@@ -5,13 +5,14 @@ use Rattle.mh_pytree.specs.declared.expression.PyExpr.{PyExpr}
 use Rattle.mh_consts.specs.declared.scope.Scope.{Scope}
 use Rattle.mh_consts.specs.Expression.{ex_of, exs}
 use Rattle.mh_design.specs.declared.design.Wait.{Wait}
-use Rattle.mh_exprs.specs.declared.fault.Fault.{Fault}
+use Rattle.mh_text.specs.declared.code.Code.{Code}
+use Rattle.mh_text.specs.declared.fault.Fault.{Fault}
 use Rattle.mh_exprs.specs.declared.locals.Locals.{Locals}
-use Rattle.mh_exprs.specs.Step.{Gives}
+use Rattle.mh_text.specs.Faults.{Gives}
 use Rattle.mh_lower.specs.Waits.{waits_onto, yielded_items}
 use Rattle.mh_lower.proofs.waits.tuple_waits_for.Goals as goal
 
-some_waits : (s : Scope) (ls : Locals) (xs : List PyExpr) (r : Result (List Wait) Fault) → 0 < length xs →
+some_waits : (s : Scope) (ls : Locals) (xs : List PyExpr) (r : Result (List Wait) (Fault Code)) → 0 < length xs →
     Gives (waits_onto s ls [] (exs (map ex_of xs))) r → Gives (yielded_items s ls (exs (map ex_of xs))) r
 some_waits s ls [] r h g = absurd (omega (arith, h))
 some_waits s ls (x ∷ xs) r h g = g

@@ -1,6 +1,7 @@
 use Rattle.std.proofs.Common.{◌≡◌, ◌∙◌, ◌<◌, ◌≤◌, ℕ, List, Result, length, subst, sym, ap, arith}
+use Rattle.mh_world.specs.World.{Broken}
 use Rattle.mh_design.specs.declared.design.Design.{Design}
-use Rattle.mh_world.specs.declared.fault.Fault.{Fault}
+use Rattle.mh_text.specs.declared.fault.Fault.{Fault}
 use Rattle.mh_world.specs.View.{world}
 use Rattle.mh_plans.specs.Order.{generators_of}
 use Rattle.mh_plans.specs.Plans as spec
@@ -12,7 +13,7 @@ pub returns-then-count-gt-MOST_GENERATORS : goal.returns-then-count-gt-MOST_GENE
 returns-then-count-gt-MOST_GENERATORS c =
     let counted : c.made_count-count.result ≡ length (spec.reads_at (world c.args.state.now) (generators_of (world c.args.state.now) c.args.top)) =
     c.made_count-count.ensures ∙ ap (λ gs. length (spec.reads_at (world c.args.state.now) gs)) (c.as_slice.ensures ∙ c.in_ok-gs.ensures) in
-    subst (λ (r : Result Design Fault). Planned (spec.fitting (spec.plan (world c.args.state.now) c.args.top c.args.x.now)) r) (sym c.refuse.ensures)
+    subst (λ (r : Result Design (Fault Broken)). Planned (spec.fitting (spec.plan (world c.args.state.now) c.args.top c.args.x.now)) r) (sym c.refuse.ensures)
     (many_plan (world c.args.state.now) c.args.top c.args.x.now (spec.reads_at (world c.args.state.now) (generators_of (world c.args.state.now) c.args.top)) (omega (arith, counted)))
 
 pub design_with-requires : goal.design_with-requires

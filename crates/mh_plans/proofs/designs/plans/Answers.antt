@@ -1,5 +1,6 @@
 use Rattle.std.proofs.Common.{◌≡◌, ◌∙◌, ap, Result, Err, map, subst, sym, rules}
-use Rattle.mh_world.specs.declared.fault.Fault.{Fault}
+use Rattle.mh_world.specs.World.{Broken}
+use Rattle.mh_text.specs.declared.fault.Fault.{Fault}
 use Rattle.mh_world.specs.View.{world}
 use Rattle.mh_plans.specs.declared.designs.Elaborated.{Elaborated}
 use Rattle.mh_plans.specs.Plans as spec
@@ -10,7 +11,7 @@ use Rattle.mh_plans.proofs.designs.plans.Goals as goal
 pub returns-in_err-designs : goal.returns-in_err-designs
 returns-in_err-designs c =
     let is : c.from_residual-in_err-designs.result ≡ Err c.in_err-designs.field-0.0 = search rules in
-    subst (λ (r : Result Elaborated Fault). Plans (spec.plans (world c.args.state.now)) r) (sym is)
+    subst (λ (r : Result Elaborated (Fault Broken)). Plans (spec.plans (world c.args.state.now)) r) (sym is)
     (all_refused (world c.args.state.now) c.as_slice.result.now c.in_err-designs.field-0.0 (c.as_slice.ensures ∙ c.in_ok-tops.ensures) c.in_err-designs.ensures)
 
 pub returns : goal.returns

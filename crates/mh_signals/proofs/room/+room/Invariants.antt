@@ -1,7 +1,7 @@
 use Rattle.std.proofs.Common.{◌≡◌, max, map, drop}
 use Rattle.mh_design.specs.Tree.{statement_of, arm_of, block, arms}
-use Rattle.mh_signals.specs.Reading.{block_room, arms_room}
-use Rattle.mh_signals.proofs.reading.+room.Given as goal
+use Rattle.mh_signals.specs.Rooms.{block_room, arms_room}
+use Rattle.mh_signals.proofs.room.+room.Given as goal
 
 abbrev pub invariant-block_room-loop-s : goal.invariant-block_room-loop-s
 invariant-block_room-loop-s l =
